@@ -1,0 +1,43 @@
+// Times the Rust and our library, case by case: nanoseconds per operation of each, and ours divided by the Rust's.
+//
+// Both sides read the same input, and must agree before they are timed.
+
+// The driver uses the rest of these two.
+#[cfg(singles)]
+#[allow(dead_code)]
+#[path = "../oracle/driver/abi.rs"]
+mod abi;
+mod inputs;
+mod loops;
+#[allow(dead_code)]
+#[path = "../oracle/driver/random.rs"]
+mod random;
+#[cfg(singles)]
+mod singles;
+mod timing;
+
+use timing::Timing;
+
+fn given() -> Option<Timing> {
+    let mut timing = Timing { rounds: 15, only: String::new() };
+    let mut words = std::env::args().skip(1);
+    while let Some(word) = words.next() {
+        match word.as_str() {
+            "--rounds" => timing.rounds = words.next()?.parse().ok().filter(|&rounds| rounds > 0)?,
+            "--only" => timing.only = words.next()?,
+            _ => return None,
+        }
+    }
+    Some(timing)
+}
+
+fn main() {
+    let Some(timing) = given() else {
+        println!("bench [--rounds N] [--only TEXT]");
+        std::process::exit(2);
+    };
+    timing.title();
+    loops::run(&timing);
+    #[cfg(singles)]
+    singles::run(&timing);
+}

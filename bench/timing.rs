@@ -1,0 +1,64 @@
+// The measuring: both sides in turn, several rounds, the middle one taken.
+
+use std::hint::black_box;
+use std::time::Instant;
+
+pub struct Timing {
+    pub rounds: usize,
+    /// Only the cases whose names hold this text.
+    pub only: String,
+}
+
+/// A sample is long enough that the clock's own cost doesn't show.
+const SAMPLE_SECONDS: f64 = 0.006;
+
+fn seconds(times: u64, work: &mut dyn FnMut() -> u64) -> f64 {
+    let started = Instant::now();
+    for _ in 0..times {
+        black_box(work());
+    }
+    started.elapsed().as_secs_f64()
+}
+
+fn middle(mut numbers: Vec<f64>) -> f64 {
+    numbers.sort_by(f64::total_cmp);
+    numbers[numbers.len() / 2]
+}
+
+impl Timing {
+    pub fn title(&self) {
+        println!("{:<44}{:>10}{:>10}{:>8}", "case", "Rust ns", "ours ns", "ratio");
+    }
+
+    /// Each side does `operations` operations and answers a number over all its results.
+    pub fn compare(&self, name: &str, operations: usize, mut rust: impl FnMut() -> u64, mut ours: impl FnMut() -> u64) {
+        if !name.contains(&self.only) {
+            return;
+        }
+        let (expected, found) = (rust(), ours());
+        if expected != found {
+            println!("{name}: the results differ, so nothing is timed");
+            std::process::exit(1);
+        }
+        let mut times = 1;
+        while seconds(times, &mut rust) < SAMPLE_SECONDS {
+            times *= 2;
+        }
+        let (mut first, mut second, mut ratios) = (Vec::new(), Vec::new(), Vec::new());
+        for round in 0..self.rounds {
+            // In turn, so that what disturbs the machine disturbs both alike.
+            let (a, b) = if round % 2 == 0 {
+                let a = seconds(times, &mut rust);
+                (a, seconds(times, &mut ours))
+            } else {
+                let b = seconds(times, &mut ours);
+                (seconds(times, &mut rust), b)
+            };
+            first.push(a);
+            second.push(b);
+            ratios.push(b / a);
+        }
+        let scale = 1e9 / (times as f64 * operations as f64);
+        println!("{name:<44}{:>10.2}{:>10.2}{:>8.2}", middle(first) * scale, middle(second) * scale, middle(ratios));
+    }
+}

@@ -1,0 +1,11 @@
+pub mod Bits
+pub mod Refusals
+pub mod Parse
+pub mod Reads
+pub mod Copies
+pub mod Floats
+pub mod Windows
+pub mod Answers
+pub mod Words
+pub mod Masks
+pub mod Sound

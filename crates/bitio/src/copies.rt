@@ -1,0 +1,56 @@
+// The payload copy: the Rust's `copy_bits_to`.
+ghost use mathlib.Core.Path.{_≡_};
+ghost use Prim.Native.Nat.{_+_};
+ghost use lib.ListN.{length};
+ghost use Rattle.bitio.specs.Copies.{copyBits, copyLeaves};
+ghost use Rattle.bitio.specs.Answers.{ofDone};
+use crate::BitError;
+use crate::Done;
+use crate::DoneRead;
+use crate::Window;
+use crate::inner;
+use crate::inner::copy;
+use crate::inner::masks;
+use crate::windows;
+
+// The copy's refusals, in document 01's order; with none, the window past its bits.
+fn judge(bytes: &[u8], w: Window, room: usize, count: u64) -> DoneRead
+    ensures { λ r. ⌜ ofDone r ≡ copyBits room count (now (bytes .entry)) w ⌝ }
+{
+    match windows::test(bytes, w) {
+        Done::Refused(e) => DoneRead {
+            answer: Done::Refused(e),
+            next: w,
+        },
+        Done::Value => {
+            if (room as u64) < count / 8 + (count % 8 + 7) / 8 {
+                return DoneRead {
+                    answer: Done::Refused(BitError::InvalidBitLength {
+                        requested: count,
+                        available: 8 * room as u64,
+                    }),
+                    next: w,
+                };
+            }
+            inner::skip(w, count)
+        }
+    }
+}
+
+pub fn copy_bits_to(bytes: &[u8], w: Window, target: &mut [u8], count: u64) -> DoneRead
+    ensures answers { λ r. ⌜ ofDone r ≡ copyBits (length (now (target .entry))) count (now (bytes .entry)) w ⌝ }
+    ensures leaves { λ r. ⌜ now (target .exit) ≡ copyLeaves (ofDone r) (now (target .entry)) (now (bytes .entry)) (w .start .0 + w .position .0) count ⌝ }
+{
+    let read = judge(bytes, w, target.len(), count);
+    let answer = read.answer;
+    match answer {
+        Done::Refused(_) => read,
+        Done::Value => {
+            let start = w.start;
+            let position = w.position;
+            let masks = masks::table();
+            copy::copy_bits(bytes, &masks, start.0 + position.0, count, target);
+            read
+        }
+    }
+}

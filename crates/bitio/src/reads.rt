@@ -1,0 +1,229 @@
+// Reads, in the order of vrf-bitio/src/lib.rs. Each tests its data and its window, and then reads as `inner` does.
+ghost use mathlib.Core.Path.{_≡_};
+ghost use lib.Ieee.{binary32, binary64};
+ghost use Rattle.bitio.specs.declared.Window.{Window};
+ghost use Rattle.bitio.specs.Reads.{readBit, readBits, readI32, readF32, readF64, readPacked, readSerialized};
+ghost use Rattle.bitio.specs.Parse.{got};
+ghost use Rattle.bitio.specs.Floats.{reading};
+ghost use Rattle.bitio.specs.Answers.{ofBit, ofU8, ofU16, ofU32, ofI32, ofU64, ofF32, ofF64, f32Answer, f64Answer};
+use crate::Bit;
+use crate::BitError;
+use crate::BitRead;
+use crate::Done;
+use crate::F32;
+use crate::F32Read;
+use crate::F64;
+use crate::F64Read;
+use crate::I32;
+use crate::I32Read;
+use crate::U8;
+use crate::U8Read;
+use crate::U16;
+use crate::U16Read;
+use crate::U32;
+use crate::U32Read;
+use crate::U64;
+use crate::U64Read;
+use crate::Window;
+use crate::inner;
+use crate::inner::masks;
+use crate::inner::signed;
+use crate::windows;
+
+pub fn read_bit(bytes: &[u8], w: Window) -> BitRead
+    ensures { λ r. ⌜ ofBit r ≡ readBit (now (bytes .entry)) w ⌝ }
+{
+    match windows::test(bytes, w) {
+        Done::Refused(e) => BitRead {
+            answer: Bit::Refused(e),
+            next: w,
+        },
+        Done::Value => inner::bit(bytes, w),
+    }
+}
+
+pub fn read_bits(bytes: &[u8], w: Window, count: u32) -> U64Read
+    ensures { λ r. ⌜ ofU64 r ≡ readBits count (now (bytes .entry)) w ⌝ }
+{
+    match windows::test(bytes, w) {
+        Done::Refused(e) => U64Read {
+            answer: U64::Refused(e),
+            next: w,
+        },
+        Done::Value => {
+            if count > 64 {
+                return U64Read {
+                    answer: U64::Refused(BitError::InvalidWidth { width: count }),
+                    next: w,
+                };
+            }
+            let masks = masks::table();
+            inner::bits(bytes, &masks, w, count)
+        }
+    }
+}
+
+pub fn read_u8(bytes: &[u8], w: Window) -> U8Read
+    ensures { λ r. ⌜ ofU8 r ≡ readBits 8 (now (bytes .entry)) w ⌝ }
+{
+    let read = read_bits(bytes, w, 8);
+    let next = read.next;
+    let answer = read.answer;
+    match answer {
+        U64::Value(v) => U8Read {
+            answer: U8::Value((v % 256) as u8),
+            next,
+        },
+        U64::Refused(e) => U8Read {
+            answer: U8::Refused(e),
+            next,
+        },
+    }
+}
+
+pub fn read_u16(bytes: &[u8], w: Window) -> U16Read
+    ensures { λ r. ⌜ ofU16 r ≡ readBits 16 (now (bytes .entry)) w ⌝ }
+{
+    let read = read_bits(bytes, w, 16);
+    let next = read.next;
+    let answer = read.answer;
+    match answer {
+        U64::Value(v) => U16Read {
+            answer: U16::Value((v % 65536) as u16),
+            next,
+        },
+        U64::Refused(e) => U16Read {
+            answer: U16::Refused(e),
+            next,
+        },
+    }
+}
+
+pub fn read_u32(bytes: &[u8], w: Window) -> U32Read
+    ensures { λ r. ⌜ ofU32 r ≡ readBits 32 (now (bytes .entry)) w ⌝ }
+{
+    let read = read_bits(bytes, w, 32);
+    let next = read.next;
+    let answer = read.answer;
+    match answer {
+        U64::Value(v) => U32Read {
+            answer: U32::Value((v % 4294967296) as u32),
+            next,
+        },
+        U64::Refused(e) => U32Read {
+            answer: U32::Refused(e),
+            next,
+        },
+    }
+}
+
+pub fn read_i32(bytes: &[u8], w: Window) -> I32Read
+    ensures { λ r. ⌜ ofI32 r ≡ readI32 (now (bytes .entry)) w ⌝ }
+{
+    let read = read_u32(bytes, w);
+    let next = read.next;
+    let answer = read.answer;
+    match answer {
+        U32::Value(v) => I32Read {
+            answer: I32::Value(signed::of_word(v)),
+            next,
+        },
+        U32::Refused(e) => I32Read {
+            answer: I32::Refused(e),
+            next,
+        },
+    }
+}
+
+pub fn read_u64(bytes: &[u8], w: Window) -> U64Read
+    ensures { λ r. ⌜ ofU64 r ≡ readBits 64 (now (bytes .entry)) w ⌝ }
+{
+    read_bits(bytes, w, 64)
+}
+
+// A float of a pattern, or the pattern where it stands for no number.
+fn as_single(v: u32) -> F32
+    ensures { λ r. ⌜ ((u : Window) → f32Answer r u ≡ got (reading binary32 v) u) ⌝ }
+{
+    if v % 2147483648 > 2139095040 {
+        return F32::NotANumber(v);
+    }
+    F32::Value(f32::from_bits(v))
+}
+
+fn as_double(v: u64) -> F64
+    ensures { λ r. ⌜ ((u : Window) → f64Answer r u ≡ got (reading binary64 v) u) ⌝ }
+{
+    if v % 9223372036854775808 > 9218868437227405312 {
+        return F64::NotANumber(v);
+    }
+    F64::Value(f64::from_bits(v))
+}
+
+pub fn read_f32(bytes: &[u8], w: Window) -> F32Read
+    ensures { λ r. ⌜ ofF32 r ≡ readF32 (now (bytes .entry)) w ⌝ }
+{
+    let read = read_u32(bytes, w);
+    let next = read.next;
+    let answer = read.answer;
+    match answer {
+        U32::Value(v) => F32Read {
+            answer: as_single(v),
+            next,
+        },
+        U32::Refused(e) => F32Read {
+            answer: F32::Refused(e),
+            next,
+        },
+    }
+}
+
+pub fn read_f64(bytes: &[u8], w: Window) -> F64Read
+    ensures { λ r. ⌜ ofF64 r ≡ readF64 (now (bytes .entry)) w ⌝ }
+{
+    let read = read_u64(bytes, w);
+    let next = read.next;
+    let answer = read.answer;
+    match answer {
+        U64::Value(v) => F64Read {
+            answer: as_double(v),
+            next,
+        },
+        U64::Refused(e) => F64Read {
+            answer: F64::Refused(e),
+            next,
+        },
+    }
+}
+
+pub fn read_int_packed(bytes: &[u8], w: Window) -> U32Read
+    ensures { λ r. ⌜ ofU32 r ≡ readPacked (now (bytes .entry)) w ⌝ }
+{
+    match windows::test(bytes, w) {
+        Done::Refused(e) => U32Read {
+            answer: U32::Refused(e),
+            next: w,
+        },
+        Done::Value => inner::packed(bytes, w),
+    }
+}
+
+pub fn read_serialized_int(bytes: &[u8], w: Window, max: u32) -> U32Read
+    ensures { λ r. ⌜ ofU32 r ≡ readSerialized max (now (bytes .entry)) w ⌝ }
+{
+    match windows::test(bytes, w) {
+        Done::Refused(e) => U32Read {
+            answer: U32::Refused(e),
+            next: w,
+        },
+        Done::Value => {
+            if max == 0 {
+                return U32Read {
+                    answer: U32::Refused(BitError::InvalidSerializedIntMax { max }),
+                    next: w,
+                };
+            }
+            inner::serialized(bytes, w, max)
+        }
+    }
+}

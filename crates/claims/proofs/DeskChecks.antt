@@ -1,0 +1,12 @@
+-- The definitions are run on the table.
+use mathlib.Core.Path.{refl}
+use lib.Count.{leadingZeros}
+use Rattle.bitio.specs.Bits.{bitAt, bitsAt}
+use Rattle.bitio.specs.Refusals.{endless, tooLarge, zeroMaximum}
+use Rattle.bitio.specs.Parse.{_>>=_, _>>_, give, refuse, refuseIf, readIf, place}
+use Rattle.bitio.specs.Reads.{dataFits, windowFits, cursorFits, sound, need, taken, bits, packedFrom, packed, log2, serialized, readPacked, readSerialized}
+use Rattle.claims.specs.DeskChecks.{deskChecks, Hold}
+
+pub desk-checks : Hold deskChecks
+unfolding leadingZeros bitAt bitsAt endless tooLarge zeroMaximum _>>=_ _>>_ give refuse refuseIf readIf place dataFits windowFits cursorFits sound need taken bits packedFrom packed log2 serialized readPacked readSerialized
+desk-checks = (refl, (refl, (refl, (refl, (refl, (refl, (refl, (refl, tt))))))))

@@ -1,0 +1,10 @@
+-- The words of what the call answers.
+use borrow.Author.Needs.{needs}
+use Rattle.exports.proofs.windows.gritwheel_with_bit_len.Statement.{statement}
+use Rattle.exports.proofs.windows.gritwheel_with_bit_len.Tie as tie
+
+returns : tie.Need-returns
+returns c = cc
+
+pub gritwheel-with-bit-len-spec : {M : Type 1} → statement M
+gritwheel-with-bit-len-spec = tie.close (tie.spec (λ c κs. search needs) (λ c κs. search needs) returns)

@@ -1,0 +1,44 @@
+// The C functions of our static library, as the driver and the timing program call them.
+//
+// A window is start, position, length. Every `out` has 7 words: 0 or the refusal's number, three words of the value or
+// of the refusal, and the window afterwards. Nothing checks these lines against the library's source.
+
+pub type Out = [u64; 7];
+
+macro_rules! reads {
+    ($($name:ident($($argument:ident: $kind:ty),*);)*) => {
+        unsafe extern "C" {
+            $(pub fn $name(
+                bytes: *const u8, n: usize, start: u64, position: u64, length: u64, $($argument: $kind,)* out: *mut Out,
+            );)*
+        }
+    };
+}
+
+unsafe extern "C" {
+    pub fn gritwheel_new(bytes: *const u8, n: usize, out: *mut Out);
+    pub fn gritwheel_with_bit_len(bytes: *const u8, n: usize, bit_len: u64, out: *mut Out);
+    pub fn gritwheel_position(start: u64, position: u64, length: u64) -> u64;
+    pub fn gritwheel_len_bits(start: u64, position: u64, length: u64) -> u64;
+    pub fn gritwheel_bits_remaining(start: u64, position: u64, length: u64, out: *mut Out);
+    // A bool, declared as its byte so that one which is neither 0 nor 1 is seen as a difference.
+    pub fn gritwheel_at_end(start: u64, position: u64, length: u64) -> u8;
+}
+
+reads! {
+    gritwheel_read_bit();
+    gritwheel_read_bits(count: u32);
+    gritwheel_read_u8();
+    gritwheel_read_u16();
+    gritwheel_read_u32();
+    gritwheel_read_i32();
+    gritwheel_read_u64();
+    gritwheel_read_f32(value: *mut f32);
+    gritwheel_read_f64(value: *mut f64);
+    gritwheel_read_int_packed();
+    gritwheel_read_serialized_int(max: u32);
+    gritwheel_copy_bits_to(target: *mut u8, m: usize, count: u64);
+    gritwheel_sub_reader(count: u64);
+    gritwheel_skip_bits(count: u64);
+    gritwheel_skip_remaining();
+}

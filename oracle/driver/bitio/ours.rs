@@ -1,0 +1,128 @@
+// Our answers: the C functions called with the same input, and the memory that they must leave alone looked at.
+
+use super::Call::*;
+use super::expected::expected;
+use super::{Answer, CALLS, Case, NO_FLOAT, shown};
+use crate::abi::*;
+use crate::compare;
+
+/// Bytes before and after a lent target, to see writes past it; and what stands in them.
+const GUARD: usize = 8;
+const PATTERN: u8 = 0xa5;
+
+/// Longer data is lent without a copy; who makes such an input looks at the data afterwards.
+pub const LONGEST_COPIED: usize = 1 << 20;
+
+fn once(case: &Case, data: &[u8], target: &mut [u8], beside: &mut u64, out: &mut Out) {
+    let (bytes, n) = (data.as_ptr(), data.len());
+    let [start, position, length] = case.window;
+    let narrow = case.argument as u32;
+    let wide = case.argument;
+    let mut single = f32::from_bits(NO_FLOAT as u32);
+    let mut double = f64::from_bits(NO_FLOAT);
+    unsafe {
+        match case.call {
+            New => gritwheel_new(bytes, n, out),
+            WithBitLen => gritwheel_with_bit_len(bytes, n, wide, out),
+            BitsRemaining => gritwheel_bits_remaining(start, position, length, out),
+            ReadBit => gritwheel_read_bit(bytes, n, start, position, length, out),
+            ReadBits => gritwheel_read_bits(bytes, n, start, position, length, narrow, out),
+            ReadU8 => gritwheel_read_u8(bytes, n, start, position, length, out),
+            ReadU16 => gritwheel_read_u16(bytes, n, start, position, length, out),
+            ReadU32 => gritwheel_read_u32(bytes, n, start, position, length, out),
+            ReadI32 => gritwheel_read_i32(bytes, n, start, position, length, out),
+            ReadU64 => gritwheel_read_u64(bytes, n, start, position, length, out),
+            ReadF32 => gritwheel_read_f32(bytes, n, start, position, length, &mut single, out),
+            ReadF64 => gritwheel_read_f64(bytes, n, start, position, length, &mut double, out),
+            ReadIntPacked => gritwheel_read_int_packed(bytes, n, start, position, length, out),
+            ReadSerializedInt => gritwheel_read_serialized_int(bytes, n, start, position, length, narrow, out),
+            CopyBitsTo => {
+                gritwheel_copy_bits_to(bytes, n, start, position, length, target.as_mut_ptr(), target.len(), wide, out);
+            }
+            SubReader => gritwheel_sub_reader(bytes, n, start, position, length, wide, out),
+            SkipBits => gritwheel_skip_bits(bytes, n, start, position, length, wide, out),
+            SkipRemaining => gritwheel_skip_remaining(bytes, n, start, position, length, out),
+            Position => told(case, gritwheel_position(start, position, length), out),
+            LenBits => told(case, gritwheel_len_bits(start, position, length), out),
+            AtEnd => told(case, u64::from(gritwheel_at_end(start, position, length)), out),
+        }
+    }
+    if case.call == ReadF32 && single.to_bits() != NO_FLOAT as u32 {
+        *beside = u64::from(single.to_bits());
+    }
+    if case.call == ReadF64 {
+        *beside = double.to_bits();
+    }
+}
+
+/// The calls that answer with a number alone, in the other calls' form.
+fn told(case: &Case, number: u64, out: &mut Out) {
+    let [start, position, length] = case.window;
+    *out = [0, number, 0, 0, start, position, length];
+}
+
+/// The call with a target, which stands between guards.
+fn copy(case: &Case, data: &[u8], answer: &mut Answer, out: &mut Out) {
+    let m = case.target.len();
+    let Answer { bytes, beside, .. } = answer;
+    bytes.extend_from_slice(&[PATTERN; GUARD]);
+    bytes.extend_from_slice(&case.target);
+    bytes.extend_from_slice(&[PATTERN; GUARD]);
+    let target = &mut bytes[GUARD..GUARD + m];
+    once(case, data, target, beside, out);
+    if bytes[..GUARD] != [PATTERN; GUARD] || bytes[GUARD + m..] != [PATTERN; GUARD] {
+        answer.damage = Some("memory around the target");
+    }
+    bytes.copy_within(GUARD..GUARD + m, 0);
+    bytes.truncate(m);
+}
+
+impl compare::Case for Case {
+    type Answer = Answer;
+
+    fn expected(&self, answer: &mut Answer) {
+        expected(self, answer);
+    }
+
+    fn ours(&self, answer: &mut Answer, room: &mut Vec<u8>) {
+        answer.beside = NO_FLOAT;
+        answer.bytes.clear();
+        answer.damage = None;
+        let mut data = self.data.as_slice();
+        if data.len() <= LONGEST_COPIED {
+            room.clear();
+            room.extend_from_slice(data);
+            data = room;
+        }
+        // Each word must be written, so none is what it must become.
+        let mut out = [0xdead_beef_a5a5_a5a5; 7];
+        match self.call {
+            CopyBitsTo => copy(self, data, answer, &mut out),
+            _ => once(self, data, &mut [], &mut answer.beside, &mut out),
+        }
+        answer.words = out;
+        if data.len() <= LONGEST_COPIED && data != self.data {
+            answer.damage = Some("the data");
+        }
+    }
+
+    fn call(&self) -> usize {
+        self.call as usize
+    }
+
+    fn simpler(&self) -> Vec<Self> {
+        shown::simpler(self)
+    }
+
+    fn input_in_words(&self) -> String {
+        shown::input(self)
+    }
+
+    fn answer_in_words(&self, answer: &Answer) -> String {
+        shown::answer(self, answer)
+    }
+
+    fn name(call: usize) -> &'static str {
+        CALLS[call - 1].1
+    }
+}

@@ -1,0 +1,171 @@
+// Compares ours with the expected answer, counts, and at the first difference shrinks the input and prints it.
+
+use std::cell::Cell;
+use std::panic::{AssertUnwindSafe, catch_unwind};
+use std::time::Instant;
+
+pub trait Case: Clone {
+    type Answer: Default + PartialEq;
+
+    /// What the Rust answers or, outside its domain, document 01.
+    fn expected(&self, answer: &mut Self::Answer);
+    /// `room` is memory kept from call to call, for what ours is lent.
+    fn ours(&self, answer: &mut Self::Answer, room: &mut Vec<u8>);
+    fn call(&self) -> usize;
+    /// Simpler inputs to try, the simplest first. Each must be smaller by some measure, so that shrinking ends.
+    fn simpler(&self) -> Vec<Self>;
+    /// Lines, each ended.
+    fn input_in_words(&self) -> String;
+    fn answer_in_words(&self, answer: &Self::Answer) -> String;
+    fn name(call: usize) -> &'static str;
+}
+
+pub struct Comparing<C: Case> {
+    expected: C::Answer,
+    ours: C::Answer,
+    room: Vec<u8>,
+    panicked: bool,
+    /// One input in `share` is compared, and `turn` counts to the next.
+    share: u64,
+    turn: u64,
+    counts: Vec<u64>,
+    stage: (&'static str, u64, Instant),
+}
+
+impl<C: Case> Comparing<C> {
+    pub fn new(seed: u64, share: u64) -> Self {
+        Self {
+            expected: Default::default(),
+            ours: Default::default(),
+            room: Vec::new(),
+            panicked: false,
+            share,
+            turn: seed % share,
+            counts: Vec::new(),
+            stage: ("", 0, Instant::now()),
+        }
+    }
+
+    #[inline]
+    pub fn check(&mut self, case: &C) {
+        if self.turn > 0 {
+            self.turn -= 1;
+            return;
+        }
+        self.turn = self.share - 1;
+        if self.differs(case) {
+            self.report(case);
+        }
+        let call = case.call();
+        if call >= self.counts.len() {
+            self.counts.resize(call + 1, 0);
+        }
+        self.counts[call] += 1;
+    }
+
+    fn differs(&mut self, case: &C) -> bool {
+        let _watched = Watched::new(case);
+        // A panic of the Rust on its own domain would be a finding, and is shown as a difference.
+        let asked = catch_unwind(AssertUnwindSafe(|| case.expected(&mut self.expected)));
+        self.panicked = asked.is_err();
+        case.ours(&mut self.ours, &mut self.room);
+        self.panicked || self.expected != self.ours
+    }
+
+    fn show(&mut self, title: &str, case: &C) {
+        self.differs(case);
+        print!("{title}\n{}", case.input_in_words());
+        if self.panicked {
+            println!("  expected  the Rust panicked");
+        } else {
+            println!("  expected  {}", case.answer_in_words(&self.expected));
+        }
+        println!("  ours      {}", case.answer_in_words(&self.ours));
+    }
+
+    fn report(&mut self, found: &C) -> ! {
+        let mut smallest = found.clone();
+        while let Some(next) = smallest.simpler().into_iter().find(|case| self.differs(case)) {
+            smallest = next;
+        }
+        self.show("DIFFERENCE, the smallest input that still differs", &smallest);
+        self.show("as it was found", found);
+        std::process::exit(1);
+    }
+
+    /// Names the inputs that follow; prints how many the stage before had.
+    pub fn stage(&mut self, name: &'static str) {
+        let total = self.total();
+        let (before, from, started) = self.stage;
+        if !before.is_empty() {
+            println!("  {before}: {} inputs, {:.1} s", total - from, started.elapsed().as_secs_f64());
+        }
+        self.stage = (name, total, Instant::now());
+    }
+
+    pub fn total(&self) -> u64 {
+        self.counts.iter().sum()
+    }
+
+    pub fn summary(&mut self) {
+        self.stage("");
+        for (call, count) in self.counts.iter().enumerate().filter(|(_, count)| **count > 0) {
+            println!("{:<28}{count:>14}", C::name(call));
+        }
+        println!("{:<28}{:>14}", "total", self.total());
+    }
+}
+
+// A crash inside ours ends the process, so the input under way is kept where the signal's handler can print it.
+thread_local! {
+    static UNDER_WAY: Cell<(*const (), fn(*const ()))> = const { Cell::new((std::ptr::null(), nothing)) };
+}
+
+fn nothing(_: *const ()) {}
+
+fn print_case<C: Case>(case: *const ()) {
+    let case = unsafe { &*case.cast::<C>() };
+    print!("CRASH\n{}", case.input_in_words());
+}
+
+struct Watched;
+
+impl Watched {
+    #[inline]
+    fn new<C: Case>(case: &C) -> Self {
+        UNDER_WAY.set((std::ptr::from_ref(case).cast(), print_case::<C>));
+        Self
+    }
+}
+
+impl Drop for Watched {
+    #[inline]
+    fn drop(&mut self) {
+        UNDER_WAY.set((std::ptr::null(), nothing));
+    }
+}
+
+unsafe extern "C" {
+    fn signal(number: i32, handler: extern "C" fn(i32)) -> usize;
+    fn _exit(status: i32) -> !;
+}
+
+extern "C" fn crashed(number: i32) {
+    let (case, print) = UNDER_WAY.get();
+    print(case);
+    println!("signal {number}");
+    unsafe { _exit(1) }
+}
+
+/// Prints the input under way when the process is about to die.
+pub fn watch_for_crashes() {
+    std::panic::set_hook(Box::new(|why| {
+        // While a case is under way the panic is the Rust's, and is reported as a difference.
+        if UNDER_WAY.get().0.is_null() {
+            println!("the driver panicked: {why}");
+        }
+    }));
+    for number in [4, 6, 7, 8, 11] {
+        unsafe { signal(number, crashed) };
+    }
+}

@@ -1,0 +1,56 @@
+// Compares our library with the Rust, call by call; without our library it records the Rust's answers.
+//
+//   driver [--long] [--seed N] [--share N]     built with --cfg ours
+//   driver --record N                          built without
+
+#![cfg_attr(not(ours), allow(dead_code))]
+
+#[cfg(ours)]
+mod abi;
+mod bitio;
+#[cfg(ours)]
+mod compare;
+mod random;
+
+struct Given {
+    long: bool,
+    seed: u64,
+    /// One input in so many is compared.
+    share: u64,
+    #[cfg_attr(ours, allow(dead_code))]
+    record: usize,
+}
+
+fn given() -> Option<Given> {
+    let mut given = Given { long: false, seed: 1, share: 1, record: 0 };
+    let mut words = std::env::args().skip(1);
+    while let Some(word) = words.next() {
+        match word.as_str() {
+            "--long" => given.long = true,
+            "--seed" => given.seed = words.next()?.parse().ok()?,
+            "--share" => given.share = words.next()?.parse().ok().filter(|&share| share > 0)?,
+            "--record" => given.record = words.next()?.parse().ok()?,
+            _ => return None,
+        }
+    }
+    Some(given)
+}
+
+#[cfg(ours)]
+fn run(given: &Given) {
+    compare::watch_for_crashes();
+    bitio::inputs::Inputs::new(given.seed, given.share, given.long).run();
+}
+
+#[cfg(not(ours))]
+fn run(given: &Given) {
+    bitio::records::print(given.record);
+}
+
+fn main() {
+    let Some(given) = given() else {
+        println!("driver [--long] [--seed N] [--share N] | driver --record N");
+        std::process::exit(2);
+    };
+    run(&given);
+}
