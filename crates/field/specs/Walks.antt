@@ -1,0 +1,87 @@
+-- A walk: records one after another into a lent list, a place for each, up to where it stops.
+use Prim.Native.Nat.{ℕ, zero, suc, _-_}
+use mathlib.Core.Bool.{Bool, true, false}
+use mathlib.Core.List.{List, [], _∷_}
+use lib.Dec.{eqb, leb}
+use Rattle.bitio.specs.declared.Window.{Window}
+use Rattle.bitio.specs.Refusals.{Refusal, placeOf, placed}
+use Rattle.bitio.specs.Parse.{Answer, got, refused, Parse, _>>_, refuseIf}
+use Rattle.bitio.specs.Reads.{sound, readBit}
+use Rattle.field.specs.Records.{Found, Looked, ends, abandons, finds, repLayout, classNetCache}
+
+-- at the end with nothing left, at the end with so many bits of the class net cache left, or with so many abandoned
+pub data Stop : Type 0 where
+  ended : Stop
+  tail : ℕ → Stop
+  abandoned : ℕ → Stop
+
+-- what the list holds, how many records were written, and where the walk stopped or what it refused
+pub record Walked : Type 0 where
+  pub places : List (List ℕ)
+  pub count : ℕ
+  pub answer : Answer Stop
+
+-- "handle, bit count and its payload's start, counted both ways"
+abbrev pub numbers : Found → List ℕ
+numbers r = r .handle ∷ r .bits ∷ r .inWindow ∷ r .inPacket ∷ []
+
+-- "14+ record list full: cursor at that record's start"
+unfoldable pub listFull : Window → Refusal
+listFull w = record { number = 14; returns = placed (placeOf w) }
+
+abbrev pub atEnd : Window → Window
+atEnd w = record { start = w .start; position = record { 0 = w .length }; length = w .length }
+
+abbrev pub stopped : List (List ℕ) → Answer Stop → Walked
+stopped ps a = record { places = ps; count = 0; answer = a }
+
+abbrev pub after : List ℕ → Walked → Walked
+after n x = record { places = n ∷ x .places; count = suc (x .count); answer = x .answer }
+
+-- A record goes to the first place, and the walk goes on with the others. "14 is given exactly when a complete further record
+-- finds no place." "abandons from the record's start"
+abbrev pub onward : List (List ℕ) → Window → Answer Looked → (List (List ℕ) → Window → Walked) → Walked
+onward ps w (refused e u) on = stopped ps (refused e u)
+onward ps w (got ends u) on = stopped ps (got ended u)
+onward ps w (got abandons u) on = stopped ps (got (abandoned (w .length - w .position .0)) (atEnd u))
+onward [] w (got (finds r) u) on = stopped [] (refused (listFull w) w)
+onward (p ∷ ps) w (got (finds r) u) on = after (numbers r) (on ps u)
+
+-- The second argument only bounds the recursion: each record reads at least eight bits.
+unfoldable pub walk : Parse Looked → ℕ → List ℕ → List (List ℕ) → Window → Walked
+walk look zero d ps w = stopped ps (got ended w)
+walk look (suc n) d ps w = onward ps w (look d w) (walk look n d)
+
+abbrev pub records : Parse Looked → List ℕ → List (List ℕ) → Window → Walked
+records look d ps w = walk look (suc (w .length - w .position .0)) d ps w
+
+-- what comes before the records; a refusal there leaves the list as it was
+abbrev pub from : {A : Type 0} → List (List ℕ) → Answer A → (Window → Walked) → Walked
+from ps (refused e u) on = stopped ps (refused e u)
+from ps (got a u) on = on u
+
+-- "15 function count 0: nothing"
+unfoldable pub unresolved : Refusal
+unresolved = record { number = 15; returns = [] }
+
+unfoldable pub parseClassNetCache : ℕ → List ℕ → List (List ℕ) → Window → Walked
+parseClassNetCache count d ps w = from ps ((sound >> refuseIf (eqb count 0) unresolved) d w) (records (classNetCache count) d ps)
+
+-- Bits after the end are the class net cache's: retained for it, or skipped.
+abbrev pub ending : Bool → Bool → Window → Answer Stop
+ending true retain u = got ended u
+ending false true u = got (tail (u .length - u .position .0)) u
+ending false false u = got (tail (u .length - u .position .0)) (atEnd u)
+
+abbrev pub settled : Bool → Answer Stop → Answer Stop
+settled retain (got ended u) = ending (leb (u .length) (u .position .0)) retain u
+settled retain (got (tail n) u) = got (tail n) u
+settled retain (got (abandoned n) u) = got (abandoned n) u
+settled retain (refused e u) = refused e u
+
+abbrev pub settle : Bool → Walked → Walked
+settle retain x = record { places = x .places; count = x .count; answer = settled retain (x .answer) }
+
+-- "one ignored bit"
+unfoldable pub parseRepLayout : Bool → List ℕ → List (List ℕ) → Window → Walked
+parseRepLayout retain d ps w = from ps (readBit d w) (λ u. settle retain (records repLayout d ps u))

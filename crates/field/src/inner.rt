@@ -1,0 +1,211 @@
+// One record at a time, in a window that has been tested.
+ghost use mathlib.Core.Path.{_≡_};
+ghost use Prim.Native.Nat.{suc, _-_, _≤_, _<_, max};
+ghost use Rattle.bitio.specs.Sound.{Sound};
+ghost use Rattle.field.specs.Records.{counted, repLayout, call, classNetCache, look, ofStep};
+ghost use Rattle.bitio.specs.Parse.{got, refused};
+ghost use Rattle.field.specs.Walks.{abandoned, atEnd, listFull, walk};
+ghost use Rattle.field.specs.Answers.{stopAnswer, ofWalk};
+use crate::FieldError;
+use crate::Kind;
+use crate::Record;
+use crate::Step;
+use crate::StepRead;
+use crate::Stop;
+use crate::Walk;
+use bitio::PacketBit;
+use bitio::U32;
+use bitio::Window;
+use bitio::WindowBit;
+use bitio::inner;
+use bitio::windows;
+
+// Named cases of a walk's end, so that the loop below reads as a list of them.
+fn abandon(at: Window, count: u64, next: Window) -> Walk
+    requires { ⌜ at .position .0 ≤ at .length ⌝ }
+    ensures { λ r. ⌜ (r .count ≡ count) × (stopAnswer (r .stop) (r .next) ≡ got (abandoned (at .length - at .position .0)) (atEnd next)) ⌝ }
+{
+    let position = at.position;
+    let start = next.start;
+    Walk {
+        stop: Stop::Abandoned(at.length - position.0),
+        count,
+        next: Window {
+            start,
+            position: WindowBit(next.length),
+            length: next.length,
+        },
+    }
+}
+
+fn full(at: Window, count: u64) -> Walk
+    ensures { λ r. ⌜ (r .count ≡ count) × (stopAnswer (r .stop) (r .next) ≡ refused (listFull at) at) ⌝ }
+{
+    Walk {
+        stop: Stop::Refused(FieldError::RecordListFull {
+            position: windows::place_of(at),
+        }),
+        count,
+        next: at,
+    }
+}
+
+// The count and the payload of a record whose handle has been read.
+fn counted(bytes: &[u8], w: Window, handle: u32) -> StepRead
+    requires { ⌜ Sound (now bytes) w ⌝ }
+    ensures { λ r. ⌜ (ofStep r ≡ counted handle (now (bytes .entry)) w) × Sound (now (bytes .entry)) (r .next) ⌝ }
+{
+    let read = inner::packed(bytes, w);
+    let next = read.next;
+    let answer = read.answer;
+    match answer {
+        U32::Refused(e) => StepRead {
+            answer: Step::Refused(e),
+            next,
+        },
+        U32::Value(n) => {
+            let start = next.start;
+            let position = next.position;
+            if next.length - position.0 < n as u64 {
+                return StepRead {
+                    answer: Step::Abandons,
+                    next,
+                };
+            }
+            StepRead {
+                answer: Step::Found {
+                    handle,
+                    bits: n,
+                    in_window: position,
+                    in_packet: PacketBit(start.0 + position.0),
+                },
+                next: inner::advance(next, n as u64),
+            }
+        }
+    }
+}
+
+fn rep_layout(bytes: &[u8], w: Window) -> StepRead
+    requires { ⌜ Sound (now bytes) w ⌝ }
+    ensures { λ r. ⌜ (ofStep r ≡ repLayout (now (bytes .entry)) w) × Sound (now (bytes .entry)) (r .next) ⌝ }
+{
+    let read = inner::packed(bytes, w);
+    let next = read.next;
+    let answer = read.answer;
+    match answer {
+        U32::Refused(e) => StepRead {
+            answer: Step::Refused(e),
+            next,
+        },
+        U32::Value(code) => {
+            if code == 0 {
+                return StepRead {
+                    answer: Step::Ends,
+                    next,
+                };
+            }
+            counted(bytes, next, code - 1)
+        }
+    }
+}
+
+fn call(bytes: &[u8], w: Window, max: u32) -> StepRead
+    requires { ⌜ Sound (now bytes) w × (0 < max) ⌝ }
+    ensures { λ r. ⌜ (ofStep r ≡ call max (now (bytes .entry)) w) × Sound (now (bytes .entry)) (r .next) ⌝ }
+{
+    let read = inner::serialized(bytes, w, max);
+    let next = read.next;
+    let answer = read.answer;
+    match answer {
+        U32::Refused(e) => StepRead {
+            answer: Step::Refused(e),
+            next,
+        },
+        U32::Value(handle) => {
+            let position = next.position;
+            if next.length - position.0 < 8 {
+                return StepRead {
+                    answer: Step::Abandons,
+                    next,
+                };
+            }
+            counted(bytes, next, handle)
+        }
+    }
+}
+
+fn at_least_two(count: u32) -> u32
+    ensures { λ r. ⌜ (r ≡ max count 2) × (0 < r) ⌝ }
+{
+    if count < 2 { 2 } else { count }
+}
+
+fn class_net_cache(bytes: &[u8], w: Window, count: u32) -> StepRead
+    requires { ⌜ Sound (now bytes) w ⌝ }
+    ensures { λ r. ⌜ (ofStep r ≡ classNetCache count (now (bytes .entry)) w) × Sound (now (bytes .entry)) (r .next) ⌝ }
+{
+    let position = w.position;
+    if w.length <= position.0 {
+        return StepRead {
+            answer: Step::Ends,
+            next: w,
+        };
+    }
+    call(bytes, w, at_least_two(count))
+}
+
+pub fn look(bytes: &[u8], w: Window, kind: Kind) -> StepRead
+    requires { ⌜ Sound (now bytes) w ⌝ }
+    ensures { λ r. ⌜ (ofStep r ≡ look kind (now (bytes .entry)) w) × Sound (now (bytes .entry)) (r .next) ⌝ }
+{
+    match kind {
+        Kind::RepLayout => rep_layout(bytes, w),
+        Kind::ClassNetCache(count) => class_net_cache(bytes, w, count),
+    }
+}
+
+// A place for each record, in order.
+pub fn walk(bytes: &[u8], w: Window, kind: Kind, records: &mut [Record]) -> Walk
+    requires { ⌜ Sound (now bytes) w ⌝ }
+    ensures { λ r. ⌜ ofWalk r (now (records .exit)) ≡ walk (look kind) (suc (w .length - w .position .0)) (now (bytes .entry)) (now (records .entry)) w ⌝ }
+{
+    let mut at = w;
+    let mut k: usize = 0;
+    loop {
+        let read = look(bytes, at, kind);
+        let answer = read.answer;
+        let next = read.next;
+        match answer {
+            Step::Refused(e) => {
+                return Walk {
+                    stop: Stop::Refused(FieldError::Bits(e)),
+                    count: k as u64,
+                    next,
+                };
+            }
+            Step::Ends => {
+                return Walk {
+                    stop: Stop::Ended,
+                    count: k as u64,
+                    next,
+                };
+            }
+            Step::Abandons => {
+                return abandon(at, k as u64, next);
+            }
+            Step::Found {
+                handle,
+                bits,
+                in_window,
+                in_packet,
+            } => {
+                if records.len() <= k {
+                    return full(at, k as u64);
+                }
+                records[k] = [handle as u64, bits as u64, in_window.0, in_packet.0];
+            }
+        }
+        k += 1;
+        at = next;
+    }
+}

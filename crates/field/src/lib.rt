@@ -1,0 +1,61 @@
+// The two record walks, on lists of numbers: vrf-net/src/field.rs without its sink.
+use bitio::BitError;
+use bitio::PacketBit;
+use bitio::Place;
+use bitio::Window;
+use bitio::WindowBit;
+
+pub mod inner;
+pub mod walks;
+
+// A record's place in a lent list: its handle, its bit count, and its payload's start, counted from the window's first bit and
+// from the packet's.
+pub type Record = [u64; 4];
+
+// Which records a walk reads: the class net cache with the largest handle's bound.
+pub enum Kind {
+    RepLayout,
+    ClassNetCache(u32),
+}
+
+// What stands where a record is looked for.
+pub enum Step {
+    Ends,
+    Abandons,
+    Found {
+        handle: u32,
+        bits: u32,
+        in_window: WindowBit,
+        in_packet: PacketBit,
+    },
+    Refused(BitError),
+}
+
+pub struct StepRead {
+    pub answer: Step,
+    pub next: Window,
+}
+
+// Why a walk refused.
+pub enum FieldError {
+    Bits(BitError),
+    // 14
+    RecordListFull { position: Place },
+    // 15
+    UnresolvedFunctionCount,
+}
+
+pub enum Stop {
+    Ended,
+    // bits after the end, for the class net cache
+    ClassNetCacheTail(u64),
+    Abandoned(u64),
+    Refused(FieldError),
+}
+
+// Where a walk stopped, how many records it wrote, and where the reader then stands.
+pub struct Walk {
+    pub stop: Stop,
+    pub count: u64,
+    pub next: Window,
+}

@@ -1,0 +1,115 @@
+// The walks, in the order of vrf-net/src/field.rs, as the forms that keep the count beside the outcome.
+ghost use mathlib.Core.Path.{_≡_};
+ghost use mathlib.Core.Bool.{true, false};
+ghost use Rattle.bitio.specs.Parse.{refused};
+ghost use Rattle.field.specs.Walks.{parseRepLayout, parseClassNetCache, settled};
+ghost use Rattle.field.specs.Answers.{fieldPaper, stopAnswer, ofWalk};
+use crate::FieldError;
+use crate::Kind;
+use crate::Record;
+use crate::Stop;
+use crate::Walk;
+use crate::inner;
+use bitio::Bit;
+use bitio::Done;
+use bitio::Window;
+use bitio::WindowBit;
+use bitio::reads;
+use bitio::windows;
+
+fn refused(e: FieldError, next: Window) -> Walk
+    ensures { λ r. ⌜ (r .count ≡ 0) × (stopAnswer (r .stop) (r .next) ≡ refused (fieldPaper e) next) ⌝ }
+{
+    Walk {
+        stop: Stop::Refused(e),
+        count: 0,
+        next,
+    }
+}
+
+// The bits after the end: retained, or skipped.
+fn ended(w: Window, count: u64, retain: bool) -> Walk
+    ensures { λ r. ⌜ (r .count ≡ count) × (stopAnswer (r .stop) (r .next) ≡ settled retain (stopAnswer (Stop.Ended) w)) ⌝ }
+{
+    let start = w.start;
+    let position = w.position;
+    if w.length <= position.0 {
+        return Walk {
+            stop: Stop::Ended,
+            count,
+            next: w,
+        };
+    }
+    let stop = Stop::ClassNetCacheTail(w.length - position.0);
+    if retain {
+        return Walk {
+            stop,
+            count,
+            next: w,
+        };
+    }
+    Walk {
+        stop,
+        count,
+        next: Window {
+            start,
+            position: WindowBit(w.length),
+            length: w.length,
+        },
+    }
+}
+
+fn settle(walk: Walk, retain: bool) -> Walk
+    ensures { λ r. ⌜ (r .count ≡ walk .count) × (stopAnswer (r .stop) (r .next) ≡ settled retain (stopAnswer (walk .stop) (walk .next))) ⌝ }
+{
+    let stop = walk.stop;
+    match stop {
+        Stop::Ended => ended(walk.next, walk.count, retain),
+        Stop::ClassNetCacheTail(_) => walk,
+        Stop::Abandoned(_) => walk,
+        Stop::Refused(_) => walk,
+    }
+}
+
+fn rep_layout(bytes: &[u8], w: Window, retain: bool, records: &mut [Record]) -> Walk
+    ensures { λ r. ⌜ ofWalk r (now (records .exit)) ≡ parseRepLayout retain (now (bytes .entry)) (now (records .entry)) w ⌝ }
+{
+    let read = reads::read_bit(bytes, w);
+    let next = read.next;
+    let answer = read.answer;
+    match answer {
+        Bit::Refused(e) => refused(FieldError::Bits(e), next),
+        Bit::Value(_) => settle(inner::walk(bytes, next, Kind::RepLayout, records), retain),
+    }
+}
+
+pub fn parse_rep_layout(bytes: &[u8], w: Window, records: &mut [Record]) -> Walk
+    ensures { λ r. ⌜ ofWalk r (now (records .exit)) ≡ parseRepLayout false (now (bytes .entry)) (now (records .entry)) w ⌝ }
+{
+    rep_layout(bytes, w, false, records)
+}
+
+pub fn parse_rep_layout_content_block(bytes: &[u8], w: Window, records: &mut [Record]) -> Walk
+    ensures { λ r. ⌜ ofWalk r (now (records .exit)) ≡ parseRepLayout true (now (bytes .entry)) (now (records .entry)) w ⌝ }
+{
+    rep_layout(bytes, w, true, records)
+}
+
+pub fn parse_class_net_cache(
+    bytes: &[u8],
+    w: Window,
+    function_count: u32,
+    records: &mut [Record],
+) -> Walk
+    ensures { λ r. ⌜ ofWalk r (now (records .exit)) ≡ parseClassNetCache «function_count» (now (bytes .entry)) (now (records .entry)) w ⌝ }
+{
+    match windows::test(bytes, w) {
+        Done::Refused(e) => refused(FieldError::Bits(e), w),
+        Done::Value => {
+            if function_count == 0 {
+                return refused(FieldError::UnresolvedFunctionCount, w);
+            }
+            inner::walk(bytes, w, Kind::ClassNetCache(function_count), records)
+        }
+    }
+}
