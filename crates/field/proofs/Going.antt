@@ -6,17 +6,14 @@ use native.Mathlib.Omega.{arith}
 use lib.ListN.{length, set, take, drop, length-set, take-append-drop, drop-of-length-le}
 use lib.Seq.{drop-cons, append-snoc, drop-set-lt, take-suc-set}
 use Rattle.bitio.specs.declared.Window.{Window}
-use Rattle.bitio.specs.Refusals.{Refusal}
+use Rattle.bitio.specs.Refusals.{placeOf}
 use Rattle.bitio.specs.Parse.{Answer, got, refused, Parse}
 use Rattle.bitio.specs.Sound.{Sound}
-use Rattle.field.specs.Records.{Found, Looked, ends, abandons, finds}
-use Rattle.field.specs.Walks.{Stop, ended, abandoned, Walked, numbers, listFull, atEnd, stopped, after, walk}
+use Rattle.field.specs.Records.{Found, Looked, finds, bitsLeft}
+use Rattle.field.specs.Walks.{Stop, Walked, numbers, listFull, stopped, after, onward, walk, walked}
 use Rattle.field.proofs.Moves.{On}
 
-abbrev pub left : Window → ℕ
-left w = w .length - w .position .0
-
-pub on-less : {d : List ℕ} {w u : Window} → On 8 w u → Sound d u → left u < left w
+pub on-less : {d : List ℕ} {w u : Window} → On 8 w u → Sound d u → bitsLeft u < bitsLeft w
 on-less o s = rw (o .length) (omega (arith, o .on, rw (o .length) at s .cursor-fits))
 
 -- k records stand before
@@ -28,52 +25,38 @@ same e f = rw (e, f)
 
 pub record Going (look : Parse Looked) (d : List ℕ) (w₀ : Window) (ps₀ ps : List (List ℕ)) (w : Window) (k : ℕ) : Type 0 where
   pub sound : Sound d w
-  pub room : k + left w ≤ left w₀
+  pub room : k + bitsLeft w ≤ bitsLeft w₀
   pub size : length ps ≡ length ps₀
-  pub whole : before (take k ps) k (walk look (suc (left w₀ - k)) d (drop k ps) w) ≡ walk look (suc (left w₀)) d ps₀ w₀
+  pub whole : before (take k ps) k (walk look (suc (bitsLeft w₀ - k)) d (drop k ps) w) ≡ walked look d ps₀ w₀
 
 pub begins : (look : Parse Looked) (d : List ℕ) (w : Window) (ps : List (List ℕ)) → Sound d w → Going look d w ps ps w 0
-begins look d w ps s = record { sound = s; room = omega arith; size = refl; whole = let z : left w - 0 ≡ left w = omega arith in rw z (same refl (omega arith)) }
+begins look d w ps s = record { sound = s; room = omega arith; size = refl; whole = let z : bitsLeft w - 0 ≡ bitsLeft w = omega arith in rw z (same refl (omega arith)) }
 
 module _ {look : Parse Looked} {d : List ℕ} {w₀ : Window} {ps₀ ps : List (List ℕ)} {w : Window} {k : ℕ} (g : Going look d w₀ ps₀ ps w k) where
-  -- where it stops, the list is as it is and k were written
-  stops : (a : Answer Stop) → walk look (suc (left w₀ - k)) d (drop k ps) w ≡ stopped (drop k ps) a
-      → record { places = ps; count = k; answer = a } ≡ walk look (suc (left w₀)) d ps₀ w₀
-  stops a e =
-      let p : before (take k ps) k (stopped (drop k ps) a) ≡ record { places = ps; count = k; answer = a } =
-      same (take-append-drop k ps) (omega arith)
-      in
-      sym p ∙ ap (before (take k ps) k) (sym e) ∙ g .whole
-
-  pub stops-refused : {e : Refusal} {u : Window} → look d w ≡ refused e u → record { places = ps; count = k; answer = refused e u } ≡ walk look (suc (left w₀)) d ps₀ w₀
+  -- where what was looked at stops it, the list is as it is and k were written
+  pub stops : {x : Answer Looked} {a : Answer Stop} → look d w ≡ x → onward (drop k ps) w x (walk look (bitsLeft w₀ - k) d) ≡ stopped (drop k ps) a
+      → record { places = ps; count = k; answer = a } ≡ walked look d ps₀ w₀
   unfolding walk
-  stops-refused h = stops _ (rw h)
-
-  pub stops-ended : {u : Window} → look d w ≡ got ends u → record { places = ps; count = k; answer = got ended u } ≡ walk look (suc (left w₀)) d ps₀ w₀
-  unfolding walk
-  stops-ended h = stops _ (rw h)
-
-  pub stops-abandoned : {u : Window} → look d w ≡ got abandons u
-      → record { places = ps; count = k; answer = got (abandoned (left w)) (atEnd u) } ≡ walk look (suc (left w₀)) d ps₀ w₀
-  unfolding walk
-  stops-abandoned h = stops _ (rw h)
+  stops {a = a} h e =
+      let p : before (take k ps) k (stopped (drop k ps) a) ≡ record { places = ps; count = k; answer = a } = same (take-append-drop k ps) (omega arith) in
+      let q : walk look (suc (bitsLeft w₀ - k)) d (drop k ps) w ≡ stopped (drop k ps) a = rw h e in
+      sym p ∙ ap (before (take k ps) k) (sym q) ∙ g .whole
 
   pub stops-full : {r : Found} {u : Window} → look d w ≡ got (finds r) u → length ps ≤ k
-      → record { places = ps; count = k; answer = refused (listFull w) w } ≡ walk look (suc (left w₀)) d ps₀ w₀
-  unfolding walk
-  stops-full h f = stops _ (rw (h, drop-of-length-le ps f))
+      → record { places = ps; count = k; answer = refused (listFull (placeOf w)) w } ≡ walked look d ps₀ w₀
+  stops-full h f = stops h (rw (drop-of-length-le ps f))
 
   -- a record that has a place
   pub goes-on : {r : Found} {u : Window} → look d w ≡ got (finds r) u → k < length ps → On 8 w u → Sound d u → Going look d w₀ ps₀ (set ps k (numbers r)) u (k + 1)
   unfolding walk
   goes-on {r} {u} h f o s =
-      let room : suc k + left u ≤ left w₀ = omega (arith, g .room, on-less o s) in
-      let n : left w₀ - k ≡ suc (left w₀ - suc k) = omega (arith, room) in
-      let x = walk look (suc (left w₀ - suc k)) d (drop (suc k) ps) u in
-      let step : walk look (suc (left w₀ - k)) d (drop k ps) w ≡ after (numbers r) x =
+      let room : suc k + bitsLeft u ≤ bitsLeft w₀ = omega (arith, g .room, on-less o s) in
+      let n : bitsLeft w₀ - k ≡ suc (bitsLeft w₀ - suc k) = omega (arith, room) in
+      let x = walk look (suc (bitsLeft w₀ - suc k)) d (drop (suc k) ps) u in
+      let step : walk look (suc (bitsLeft w₀ - k)) d (drop k ps) w ≡ after (numbers r) x =
       rw (drop-cons ps k [] f, h, n) refl
       in
-      let same : before (take (suc k) (set ps k (numbers r))) (suc k) (walk look (suc (left w₀ - suc k)) d (drop (suc k) (set ps k (numbers r))) u)
+      let same : before (take (suc k) (set ps k (numbers r))) (suc k) (walk look (suc (bitsLeft w₀ - suc k)) d (drop (suc k) (set ps k (numbers r))) u)
       ≡ before (take k ps) k (after (numbers r) x) =
       rw (take-suc-set ps k (numbers r) f, drop-set-lt (suc k) ps k (numbers r) (omega arith), append-snoc (take k ps) (numbers r) (x .places)) (same refl (omega arith))
       in

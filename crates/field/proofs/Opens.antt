@@ -13,7 +13,7 @@ use Rattle.bitio.specs.Sound.{Sound}
 use Rattle.bitio.proofs.Tests.{passes}
 use Rattle.bitio.proofs.Keeps.{sound-stays, Keeps, keeps-then, keeps-give, keeps-bits}
 use Rattle.field.specs.Records.{repLayout, classNetCache}
-use Rattle.field.specs.Walks.{stopped, records, settle, unresolved, parseRepLayout, parseClassNetCache}
+use Rattle.field.specs.Walks.{stopped, walked, settle, unresolved, parseRepLayout, parseClassNetCache}
 
 keeps-bit : Keeps bit
 unfolding bit
@@ -32,7 +32,7 @@ module _ (d : List ℕ) (w : Window) {u : Window} where
     unfolding parseRepLayout
     layout-refused h = rw h
 
-    pub layout-opened : {b : Bool} → readBit d w ≡ got b u → settle retain (records repLayout d ps u) ≡ parseRepLayout retain d ps w
+    pub layout-opened : {b : Bool} → readBit d w ≡ got b u → settle retain (walked repLayout d ps u) ≡ parseRepLayout retain d ps w
     unfolding parseRepLayout
     layout-opened h = rw h
 
@@ -41,7 +41,7 @@ module _ (d : List ℕ) (w : Window) {u : Window} where
     unfolding parseClassNetCache
     cache-refused h = rw h
 
-    pub cache-opened : (sound >> refuseIf (eqb count 0) unresolved) d w ≡ got tt u → records (classNetCache count) d ps u ≡ parseClassNetCache count d ps w
+    pub cache-opened : (sound >> refuseIf (eqb count 0) unresolved) d w ≡ got tt u → walked (classNetCache count) d ps u ≡ parseClassNetCache count d ps w
     unfolding parseClassNetCache
     cache-opened h = rw h
 

@@ -2,7 +2,7 @@
 use Prim.Native.Nat.{ℕ}
 use mathlib.Core.List.{List}
 use Rattle.bitio.specs.declared.Window.{Window}
-use Rattle.bitio.specs.Refusals.{Refusal, paper, placed}
+use Rattle.bitio.specs.Refusals.{Refusal, paper}
 use Rattle.bitio.specs.Parse.{Answer, got, refused}
 use Rattle.field.specs.declared.FieldError.{FieldError}
 use Rattle.field.specs.declared.Stop.{Stop}
@@ -12,7 +12,7 @@ use Rattle.field.specs.Walks as W
 -- the paper's number and values for each case
 abbrev pub fieldPaper : FieldError → Refusal
 fieldPaper (FieldError.Bits e) = paper e
-fieldPaper (FieldError.RecordListFull p) = record { number = 14; returns = placed p }
+fieldPaper (FieldError.RecordListFull p) = W.listFull p
 fieldPaper FieldError.UnresolvedFunctionCount = W.unresolved
 
 abbrev pub stopAnswer : Stop → Window → Answer W.Stop

@@ -22,9 +22,11 @@ pub data Looked : Type 0 where
   abandons : Looked
   finds : Found → Looked
 
--- bits that the window has left
+abbrev pub bitsLeft : Window → ℕ
+bitsLeft w = w .length - w .position .0
+
 unfoldable pub remaining : Parse ℕ
-remaining d w = got (w .length - w .position .0) w
+remaining d w = got (bitsLeft w) w
 
 unfoldable pub payload : ℕ → ℕ → Parse Looked
 payload handle n d w = got (finds (record { handle = handle; bits = n; inWindow = w .position .0; inPacket = w .start .0 + w .position .0 })) (advanced w n)

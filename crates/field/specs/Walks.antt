@@ -1,13 +1,14 @@
 -- A walk: records one after another into a lent list, a place for each, up to where it stops.
-use Prim.Native.Nat.{ℕ, zero, suc, _-_}
+use Prim.Native.Nat.{ℕ, zero, suc}
 use mathlib.Core.Bool.{Bool, true, false}
 use mathlib.Core.List.{List, [], _∷_}
 use lib.Dec.{eqb, leb}
 use Rattle.bitio.specs.declared.Window.{Window}
+use Rattle.bitio.specs.declared.Place.{Place}
 use Rattle.bitio.specs.Refusals.{Refusal, placeOf, placed}
 use Rattle.bitio.specs.Parse.{Answer, got, refused, Parse, _>>_, refuseIf}
 use Rattle.bitio.specs.Reads.{sound, readBit}
-use Rattle.field.specs.Records.{Found, Looked, ends, abandons, finds, repLayout, classNetCache}
+use Rattle.field.specs.Records.{Found, Looked, ends, abandons, finds, bitsLeft, repLayout, classNetCache}
 
 -- at the end with nothing left, at the end with so many bits of the class net cache left, or with so many abandoned
 pub data Stop : Type 0 where
@@ -26,8 +27,8 @@ abbrev pub numbers : Found → List ℕ
 numbers r = r .handle ∷ r .bits ∷ r .inWindow ∷ r .inPacket ∷ []
 
 -- "14+ record list full: cursor at that record's start"
-unfoldable pub listFull : Window → Refusal
-listFull w = record { number = 14; returns = placed (placeOf w) }
+unfoldable pub listFull : Place → Refusal
+listFull p = record { number = 14; returns = placed p }
 
 abbrev pub atEnd : Window → Window
 atEnd w = record { start = w .start; position = record { 0 = w .length }; length = w .length }
@@ -43,8 +44,8 @@ after n x = record { places = n ∷ x .places; count = suc (x .count); answer = 
 abbrev pub onward : List (List ℕ) → Window → Answer Looked → (List (List ℕ) → Window → Walked) → Walked
 onward ps w (refused e u) on = stopped ps (refused e u)
 onward ps w (got ends u) on = stopped ps (got ended u)
-onward ps w (got abandons u) on = stopped ps (got (abandoned (w .length - w .position .0)) (atEnd u))
-onward [] w (got (finds r) u) on = stopped [] (refused (listFull w) w)
+onward ps w (got abandons u) on = stopped ps (got (abandoned (bitsLeft w)) (atEnd u))
+onward [] w (got (finds r) u) on = stopped [] (refused (listFull (placeOf w)) w)
 onward (p ∷ ps) w (got (finds r) u) on = after (numbers r) (on ps u)
 
 -- The second argument only bounds the recursion: each record reads at least eight bits.
@@ -52,8 +53,8 @@ unfoldable pub walk : Parse Looked → ℕ → List ℕ → List (List ℕ) → 
 walk look zero d ps w = stopped ps (got ended w)
 walk look (suc n) d ps w = onward ps w (look d w) (walk look n d)
 
-abbrev pub records : Parse Looked → List ℕ → List (List ℕ) → Window → Walked
-records look d ps w = walk look (suc (w .length - w .position .0)) d ps w
+abbrev pub walked : Parse Looked → List ℕ → List (List ℕ) → Window → Walked
+walked look d ps w = walk look (suc (bitsLeft w)) d ps w
 
 -- what comes before the records; a refusal there leaves the list as it was
 abbrev pub from : {A : Type 0} → List (List ℕ) → Answer A → (Window → Walked) → Walked
@@ -65,13 +66,13 @@ unfoldable pub unresolved : Refusal
 unresolved = record { number = 15; returns = [] }
 
 unfoldable pub parseClassNetCache : ℕ → List ℕ → List (List ℕ) → Window → Walked
-parseClassNetCache count d ps w = from ps ((sound >> refuseIf (eqb count 0) unresolved) d w) (records (classNetCache count) d ps)
+parseClassNetCache count d ps w = from ps ((sound >> refuseIf (eqb count 0) unresolved) d w) (walked (classNetCache count) d ps)
 
 -- Bits after the end are the class net cache's: retained for it, or skipped.
 abbrev pub ending : Bool → Bool → Window → Answer Stop
 ending true retain u = got ended u
-ending false true u = got (tail (u .length - u .position .0)) u
-ending false false u = got (tail (u .length - u .position .0)) (atEnd u)
+ending false true u = got (tail (bitsLeft u)) u
+ending false false u = got (tail (bitsLeft u)) (atEnd u)
 
 abbrev pub settled : Bool → Answer Stop → Answer Stop
 settled retain (got ended u) = ending (leb (u .length) (u .position .0)) retain u
@@ -84,4 +85,4 @@ settle retain x = record { places = x .places; count = x .count; answer = settle
 
 -- "one ignored bit"
 unfoldable pub parseRepLayout : Bool → List ℕ → List (List ℕ) → Window → Walked
-parseRepLayout retain d ps w = from ps (readBit d w) (λ u. settle retain (records repLayout d ps u))
+parseRepLayout retain d ps w = from ps (readBit d w) (λ u. settle retain (walked repLayout d ps u))

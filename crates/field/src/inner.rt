@@ -1,10 +1,11 @@
 // One record at a time, in a window that has been tested.
 ghost use mathlib.Core.Path.{_≡_};
-ghost use Prim.Native.Nat.{suc, _-_, _≤_, _<_, max};
+ghost use Prim.Native.Nat.{_≤_, _<_, max};
 ghost use Rattle.bitio.specs.Sound.{Sound};
-ghost use Rattle.field.specs.Records.{counted, repLayout, call, classNetCache, look, ofStep};
+ghost use Rattle.field.specs.Records.{bitsLeft, counted, repLayout, call, classNetCache, look, ofStep};
 ghost use Rattle.bitio.specs.Parse.{got, refused};
-ghost use Rattle.field.specs.Walks.{abandoned, atEnd, listFull, walk};
+ghost use Rattle.bitio.specs.Refusals.{placeOf};
+ghost use Rattle.field.specs.Walks.{abandoned, atEnd, listFull, walked};
 ghost use Rattle.field.specs.Answers.{stopAnswer, ofWalk};
 use crate::FieldError;
 use crate::Kind;
@@ -23,7 +24,7 @@ use bitio::windows;
 // Named cases of a walk's end, so that the loop below reads as a list of them.
 fn abandon(at: Window, count: u64, next: Window) -> Walk
     requires { ⌜ at .position .0 ≤ at .length ⌝ }
-    ensures { λ r. ⌜ (r .count ≡ count) × (stopAnswer (r .stop) (r .next) ≡ got (abandoned (at .length - at .position .0)) (atEnd next)) ⌝ }
+    ensures { λ r. ⌜ (r .count ≡ count) × (stopAnswer (r .stop) (r .next) ≡ got (abandoned (bitsLeft at)) (atEnd next)) ⌝ }
 {
     let position = at.position;
     let start = next.start;
@@ -39,7 +40,7 @@ fn abandon(at: Window, count: u64, next: Window) -> Walk
 }
 
 fn full(at: Window, count: u64) -> Walk
-    ensures { λ r. ⌜ (r .count ≡ count) × (stopAnswer (r .stop) (r .next) ≡ refused (listFull at) at) ⌝ }
+    ensures { λ r. ⌜ (r .count ≡ count) × (stopAnswer (r .stop) (r .next) ≡ refused (listFull (placeOf at)) at) ⌝ }
 {
     Walk {
         stop: Stop::Refused(FieldError::RecordListFull {
@@ -167,7 +168,7 @@ pub fn look(bytes: &[u8], w: Window, kind: Kind) -> StepRead
 // A place for each record, in order.
 pub fn walk(bytes: &[u8], w: Window, kind: Kind, records: &mut [Record]) -> Walk
     requires { ⌜ Sound (now bytes) w ⌝ }
-    ensures { λ r. ⌜ ofWalk r (now (records .exit)) ≡ walk (look kind) (suc (w .length - w .position .0)) (now (bytes .entry)) (now (records .entry)) w ⌝ }
+    ensures { λ r. ⌜ ofWalk r (now (records .exit)) ≡ walked (look kind) (now (bytes .entry)) (now (records .entry)) w ⌝ }
 {
     let mut at = w;
     let mut k: usize = 0;

@@ -12,7 +12,7 @@ pub mod walks;
 // from the packet's.
 pub type Record = [u64; 4];
 
-// Which records a walk reads: the class net cache with the largest handle's bound.
+// Which records a walk reads: the class net cache's with its function count.
 pub enum Kind {
     RepLayout,
     ClassNetCache(u32),

@@ -1,12 +1,10 @@
 -- 14 carries the place where the record starts.
 use mathlib.Core.Path.{refl}
 use borrow.Author.Needs.{needs}
-use Rattle.field.specs.Walks.{listFull}
 use Rattle.field.proofs.inner.full.Statement.{statement}
 use Rattle.field.proofs.inner.full.Tie as tie
 
 returns : tie.Need-returns
-unfolding listFull
 returns c = (refl, rw (c .place-of .ensures))
 
 pub full-spec : {M : Type 1} → statement M

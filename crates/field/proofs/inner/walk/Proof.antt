@@ -1,10 +1,10 @@
--- `Going` holds at each record; each way out is one law of Going.
-use mathlib.Core.Path.{ap, sym, _∙_}
+-- `Going` holds at each record; the ways out are one law of Going.
+use mathlib.Core.Path.{refl, ap, sym, _∙_}
 use borrow.Author.Needs.{needs}
 use Rattle.field.specs.declared.Step.{Step}
-use Rattle.field.specs.Records.{lookedAt, look}
+use Rattle.field.specs.Records.{lookedAt, look, bitsLeft}
 use Rattle.field.proofs.Moves.{moves-look}
-use Rattle.field.proofs.Going.{Going, left, on-less, begins, stops-refused, stops-ended, stops-abandoned, stops-full, goes-on}
+use Rattle.field.proofs.Going.{Going, on-less, begins, stops, stops-full, goes-on}
 use Rattle.field.proofs.inner.walk.Statement.{statement}
 use Rattle.field.proofs.inner.walk.Tie as tie
 
@@ -12,7 +12,7 @@ abbrev Inv-loop : tie.InvT-loop
 Inv-loop bytes kind records₀ at₀ k₀ records at k = Going (look kind) bytes at₀ records₀ records at k
 
 abbrev μ-loop : tie.MeasureT-loop
-μ-loop bytes kind records₀ at₀ k₀ records at k = left at
+μ-loop bytes kind records₀ at₀ k₀ records at k = bitsLeft at
 
 loop-holds : tie.Need-loop-holds Inv-loop μ-loop
 loop-holds c = begins (look (c .before .args .kind)) (c .before .args .bytes .now) (c .before .args .w) (c .before .args .records .now) (c .before .pre)
@@ -27,7 +27,7 @@ same-length : tie.Need-same-length Inv-loop μ-loop
 same-length c = c .before .before .before .before .before .loop .inv .size
 
 returns : tie.Need-returns Inv-loop μ-loop
-returns c = stops-refused (c .before .before .before .before .before .loop .inv) (sym (c .before .before .before .before .look .ensures .0) ∙ ap (λ (x : Step). lookedAt x (c .before .before .before .before .look .result .next)) (c .before .answer .given .1))
+returns c = stops (c .before .before .before .before .before .loop .inv) (sym (c .before .before .before .before .look .ensures .0) ∙ ap (λ (x : Step). lookedAt x (c .before .before .before .before .look .result .next)) (c .before .answer .given .1)) refl
 
 enum-told : tie.Need-enum-told Inv-loop μ-loop
 enum-told c = search needs
@@ -36,7 +36,7 @@ same-length-2 : tie.Need-same-length-2 Inv-loop μ-loop
 same-length-2 c = c .before .before .before .before .loop .inv .size
 
 returns-2 : tie.Need-returns-2 Inv-loop μ-loop
-returns-2 c = stops-ended (c .before .before .before .before .loop .inv) (sym (c .before .before .before .look .ensures .0) ∙ ap (λ (x : Step). lookedAt x (c .before .before .before .look .result .next)) (c .enum-told .given .1))
+returns-2 c = stops (c .before .before .before .before .loop .inv) (sym (c .before .before .before .look .ensures .0) ∙ ap (λ (x : Step). lookedAt x (c .before .before .before .look .result .next)) (c .enum-told .given .1)) refl
 
 enum-told-2 : tie.Need-enum-told-2 Inv-loop μ-loop
 enum-told-2 c = search needs
@@ -48,7 +48,7 @@ same-length-3 : tie.Need-same-length-3 Inv-loop μ-loop
 same-length-3 c = c .before .before .before .before .before .loop .inv .size
 
 returns-3 : tie.Need-returns-3 Inv-loop μ-loop
-returns-3 c = rw (c .abandon .ensures .0, c .abandon .ensures .1) (stops-abandoned (c .before .before .before .before .before .loop .inv) (sym (c .before .before .before .before .look .ensures .0) ∙ ap (λ (x : Step). lookedAt x (c .before .before .before .before .look .result .next)) (c .before .enum-told2 .given .1)))
+returns-3 c = rw (c .abandon .ensures .0, c .abandon .ensures .1) (stops (c .before .before .before .before .before .loop .inv) (sym (c .before .before .before .before .look .ensures .0) ∙ ap (λ (x : Step). lookedAt x (c .before .before .before .before .look .result .next)) (c .before .enum-told2 .given .1)) refl)
 
 enum-known-answer-2 : tie.Need-enum-known-answer-2 Inv-loop μ-loop
 enum-known-answer-2 c = search needs
