@@ -37,10 +37,10 @@ pub determined : {A B : Type 0} (f : A → B) (back : B → A) → ((a : A) → 
 determined f back h a b e = sym (h a) ∙ ap back e ∙ h b
 
 -- a refusal by its number and what it returns
-abbrev placeAt : Refusal → Place
+abbrev pub placeAt : Refusal → Place
 placeAt r = record { at = record { 0 = getD (r .returns) 0 0 } }
 
-unpaper : Refusal → BitError
+pub unpaper : Refusal → BitError
 unpaper r =
     cond (eqb (r .number) 1) (Eof (placeAt r) (getD (r .returns) 1 0) (getD (r .returns) 2 0))
     (cond (eqb (r .number) 2) (MalformedIntPacked (placeAt r))
@@ -49,7 +49,7 @@ unpaper r =
     (cond (eqb (r .number) 5) (InvalidBitLength (getD (r .returns) 0 0) (getD (r .returns) 1 0))
     (cond (eqb (r .number) 6) (InvalidWidth (getD (r .returns) 0 0)) (DataTooLong (getD (r .returns) 0 0)))))))
 
-unpaper-paper : (e : BitError) → unpaper (paper e) ≡ e
+pub unpaper-paper : (e : BitError) → unpaper (paper e) ≡ e
 unfolding unpaper tooFewBits endless tooLarge zeroMaximum beyond tooWide tooLong
 unpaper-paper (Eof p l r) = refl
 unpaper-paper (MalformedIntPacked p) = refl

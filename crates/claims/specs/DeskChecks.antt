@@ -1,19 +1,41 @@
 -- Document 01's desk checks that are marked to be proved, one row each: what the definitions give, and what the document says.
 use Prim.Native.Nat.{ℕ}
 use mathlib.Core.Path.{_≡_}
+use mathlib.Core.Bool.{true, false}
 use mathlib.Core.List.{List, [], _∷_, _++_}
+use Rattle.bitio.specs.declared.Window.{Window}
 use Rattle.bitio.specs.Parse.{Answer, got, refused, Parse}
 use Rattle.bitio.specs.Reads.{readPacked, readSerialized}
 use Rattle.bitio.specs.Windows.{front}
+use Rattle.field.specs.Walks.{Stop, ended, tail, abandoned, Walked, parseRepLayout, parseClassNetCache}
 
--- a number and how many bits were read, after a 0; or the refusal's number, what it returns, and where the reader then stands
-abbrev pub told : Answer ℕ → List ℕ
-told (got v w) = 0 ∷ v ∷ w .position .0 ∷ []
-told (refused r w) = r .number ∷ (r .returns ++ (w .position .0 ∷ []))
+-- values and how many bits were read, after a 0; or the refusal's number, what it returns, and where the reader then stands
+abbrev pub told : {A : Type 0} → (A → List ℕ) → Answer A → List ℕ
+told f (got a w) = 0 ∷ (f a ++ (w .position .0 ∷ []))
+told f (refused r w) = r .number ∷ (r .returns ++ (w .position .0 ∷ []))
+
+abbrev pub number : ℕ → List ℕ
+number n = n ∷ []
 
 -- a read of the first n bits of some bytes
 abbrev pub over : ℕ → List ℕ → Parse ℕ → List ℕ
-over n bytes p = told (p bytes (front n))
+over n bytes p = told number (p bytes (front n))
+
+-- 0 and nothing left, 1 and a tail, 2 and what was abandoned
+abbrev pub stop : Stop → List ℕ
+stop ended = 0 ∷ 0 ∷ []
+stop (tail n) = 1 ∷ n ∷ []
+stop (abandoned n) = 2 ∷ n ∷ []
+
+abbrev pub joined : List (List ℕ) → List ℕ
+joined [] = []
+joined (p ∷ ps) = p ++ joined ps
+
+-- a walk over the first n bits of some bytes, with room for one record: where it stopped, how many records, and the list
+abbrev pub walking : ℕ → List ℕ → (List ℕ → List (List ℕ) → Window → Walked) → List ℕ
+walking n bytes p =
+    let x = p bytes ((7 ∷ 7 ∷ 7 ∷ 7 ∷ []) ∷ []) (front n) in
+    told stop (x .answer) ++ (x .count ∷ joined (x .places))
 
 pub record Check : Type 0 where
   pub gives : List ℕ
@@ -34,6 +56,11 @@ deskChecks =
     ∷ check (over 2 (0b10 ∷ []) (readSerialized 3)) (0 ∷ 2 ∷ 2 ∷ [])
     ∷ check (over 1 (0b1 ∷ []) (readSerialized 3)) (0 ∷ 1 ∷ 1 ∷ [])
     ∷ check (over 8 (0xff ∷ []) (readSerialized 0)) (4 ∷ 0 ∷ 0 ∷ [])
+    -- "Nine zero bits as RepLayout: no record, nothing left. Eight as class net cache, count 2: 8 abandoned. Nine, count 1: one empty record."
+    ∷ check (walking 9 (0 ∷ 0 ∷ []) (parseRepLayout false)) (0 ∷ 0 ∷ 0 ∷ 9 ∷ 0 ∷ 7 ∷ 7 ∷ 7 ∷ 7 ∷ [])
+    ∷ check (walking 9 (0 ∷ 0 ∷ []) (parseRepLayout true)) (0 ∷ 0 ∷ 0 ∷ 9 ∷ 0 ∷ 7 ∷ 7 ∷ 7 ∷ 7 ∷ [])
+    ∷ check (walking 8 (0 ∷ []) (parseClassNetCache 2)) (0 ∷ 2 ∷ 8 ∷ 8 ∷ 0 ∷ 7 ∷ 7 ∷ 7 ∷ 7 ∷ [])
+    ∷ check (walking 9 (0 ∷ 0 ∷ []) (parseClassNetCache 1)) (0 ∷ 0 ∷ 0 ∷ 9 ∷ 1 ∷ 0 ∷ 0 ∷ 9 ∷ 9 ∷ [])
     ∷ []
 
 -- the claim: each row gives what the document says

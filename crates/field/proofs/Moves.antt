@@ -3,7 +3,9 @@ use mathlib.Core.Path.{_≡_, refl, sym, ap, _∙_}
 use mathlib.Core.Bool.{Bool, true, false, not}
 use mathlib.Core.List.{List}
 use Prim.Native.Nat.{ℕ, _+_, _-_, _≤_, max}
+use native.Mathlib.Decide.{decLe}
 use native.Mathlib.Omega.{arith}
+use borrow.Author.Tests.{le-leb, lt-leb}
 use lib.Dec.{ltb, leb, eqb}
 use Rattle.bitio.specs.declared.Window.{Window}
 use Rattle.bitio.specs.Parse.{Answer, got, refused, Parse, andThen, _>>=_, give, readIf}
@@ -11,11 +13,12 @@ use Rattle.bitio.specs.Reads.{packed}
 use Rattle.bitio.proofs.Rows.{not-refused}
 use Rattle.bitio.proofs.Keeps.{Stays, stays, left, Keeps, keeps-packed, keeps-serialized, packed-reads}
 use Rattle.field.specs.declared.Kind.{Kind}
-use Rattle.field.specs.Records.{Found, Looked, ends, abandons, finds, remaining, payload, counted, repLayout, call, classNetCache, look}
+use Rattle.field.specs.Records.{Found, Looked, ends, abandons, finds, bitsLeft, remaining, payload, counted, repLayout, call, classNetCache, look}
 
 pub record On (n : ℕ) (w u : Window) : Type 0 where
   pub length : u .length ≡ w .length
   pub on : w .position .0 + n ≤ u .position .0
+  pub within : w .position .0 ≤ w .length → u .position .0 ≤ u .length
 
 pub record Moves (n : ℕ) (p : Parse Looked) : Type 0 where
   pub moves : (d : List ℕ) (w : Window) {r : Found} {u : Window} → p d w ≡ got (finds r) u → On n w u
@@ -23,7 +26,7 @@ pub record Moves (n : ℕ) (p : Parse Looked) : Type 0 where
 module _ {A : Type 0} {n : ℕ} where
   then-on : (x : Answer A) (k : A → Window → Answer Looked) {w u : Window} {r : Found} → Stays w (left x) → ((a : A) (v : Window) → k a v ≡ got (finds r) u → On n v u)
       → andThen x k ≡ got (finds r) u → On n w u
-  then-on (got a v) k s f e = let o = f a v e in record { length = o .length ∙ s .length; on = omega (arith, s .on, o .on) }
+  then-on (got a v) k s f e = let o = f a v e in record { length = o .length ∙ s .length; on = omega (arith, s .on, o .on); within = λ h. o .within (s .within h) }
   then-on (refused x v) k s f e = absurd (not-refused e)
 
   moves-then : {p : Parse A} {k : A → Parse Looked} → Keeps p → ((a : A) → Moves n (k a)) → Moves n (p >>= k)
@@ -38,7 +41,7 @@ moves-packed {k} f = record { moves = λ d w e. go d w (packed d w) refl e }
     go d w (got a v) q e =
         let o = f a .moves d v e in
         let s = keeps-packed .keeps d w in
-        record { length = o .length ∙ (rw q at s .length); on = omega (arith, packed-reads d w q, o .on) }
+        record { length = o .length ∙ (rw q at s .length); on = omega (arith, packed-reads d w q, o .on); within = λ h. o .within ((rw q at s .within) h) }
     go d w (refused x v) q e = absurd (not-refused e)
 
 -- what is not a record
@@ -55,17 +58,22 @@ unfolding readIf give
 moves-if true h f = f
 moves-if false h f = record { moves = λ d w e. absurd (no-record h e) }
 
-moves-payload : (h n : ℕ) → Moves 0 (payload h n)
-unfolding payload
-moves-payload h n = record { moves = λ d w e. let q = ap left e in rw (sym q) (record { length = refl; on = omega arith }) }
-
 keeps-remaining : Keeps remaining
 unfolding remaining
 keeps-remaining = record { keeps = λ d w. stays w }
 
+-- a payload that is there ends within the window
+moves-rest : (h n : ℕ) → Moves 0 (remaining >>= (λ l. readIf (leb n l) abandons (payload h n)))
+unfolding remaining payload _>>=_ readIf give
+moves-rest h n = record { moves = λ d w e. go d w (decLe n (bitsLeft w)) e }
+  where
+    go : (d : List ℕ) (w : Window) {r : Found} {u : Window} → Dec (n ≤ bitsLeft w) → readIf (leb n (bitsLeft w)) abandons (payload h n) d w ≡ got (finds r) u → On 0 w u
+    go d w (yes f) e = rw (sym (ap left (rw (le-leb n (bitsLeft w) f) at e))) (record { length = refl; on = omega arith; within = λ g. omega arith })
+    go d w (no f) e = absurd (no-record abandon (rw (lt-leb n (bitsLeft w) (omega arith)) at e))
+
 moves-counted : (h : ℕ) → Moves 8 (counted h)
 unfolding counted
-moves-counted h = moves-packed (λ n. moves-then keeps-remaining (λ l. moves-if (leb n l) abandon (moves-payload h n)))
+moves-counted h = moves-packed (λ n. moves-rest h n)
 
 moves-call : (m : ℕ) → Moves 8 (call m)
 unfolding call
