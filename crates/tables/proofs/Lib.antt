@@ -1,3 +1,6 @@
 pub mod Edits
 pub mod Ascending
 pub mod Searches
+pub mod Columns
+pub mod Puts
+pub mod Join

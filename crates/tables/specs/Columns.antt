@@ -18,6 +18,12 @@ module _ {A : Type 0} where
   unfoldable pub removedAt : ℕ → List A → List A
   removedAt i l = take i l ++ drop (suc i) l
 
+-- two columns as one, place by place
+unfoldable pub beside : {A B : Type 0} → List A → List B → List (A × B)
+beside [] k = []
+beside (x ∷ l) [] = []
+beside (x ∷ l) (y ∷ k) = (x, y) ∷ beside l k
+
 unfoldable pub above : ℕ → List ℕ → Bool
 above x [] = true
 above x (y ∷ l) = ltb x y && above y l

@@ -4,6 +4,7 @@ use mathlib.Core.List.{List, [], _∷_, map}
 use Prim.Native.Nat.{ℕ, suc}
 use lib.Dec.{eqb, ltb}
 use Rattle.tables.specs.declared.Slot.{Slot}
+use Rattle.tables.specs.Columns.{beside}
 
 abbrev pub Table : Type 0 → Type 0
 Table A = List (ℕ × A)
@@ -39,10 +40,8 @@ module _ {A : Type 0} where
   values t = map (λ (e : ℕ × A). e .1) t
 
   -- the table that a column of channels and a column of values hold
-  unfoldable pub entries : List ℕ → List A → Table A
-  entries [] vs = []
-  entries (c ∷ cs) [] = []
-  entries (c ∷ cs) (v ∷ vs) = (c, v) ∷ entries cs vs
+  abbrev pub entries : List ℕ → List A → Table A
+  entries cs vs = beside cs vs
 
 -- one place further
 unfoldable pub further : Slot → Slot
