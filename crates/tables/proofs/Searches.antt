@@ -1,7 +1,7 @@
--- The search: a step to either side, and the slot that it ends at.
+-- The search: a step to either side, a turn of the count, and the slot that it ends at.
 use mathlib.Core.Path.{_≡_, refl, sym}
 use mathlib.Core.List.{List, [], _∷_}
-use Prim.Native.Nat.{ℕ, zero, suc, _+_, _≤_, _<_}
+use Prim.Native.Nat.{ℕ, zero, suc, _+_, _≤_, _<_, min}
 use native.Mathlib.Nat.{not-suc-le-zero, le-of-suc-le-suc}
 use native.Mathlib.Decide.{decLt}
 use native.Mathlib.Omega.{arith}
@@ -11,16 +11,9 @@ use Rattle.tables.specs.declared.Slot.{Slot}
 use Rattle.tables.specs.Search.{Rising, Near}
 use Rattle.tables.specs.Tables.{further, slotOf}
 
-module _ (l : List ℕ) (live c : ℕ) where
-  pub whole : (room : ℕ) → live ≤ room → Near l live c 0 room
-  whole room e = record { within = omega arith; below = λ k h. absurd (not-suc-le-zero h); above = λ k h g. omega arith }
-
-  pub narrow : (r room rest : ℕ) → room ≤ rest → Near l live c r room → Near l live c r rest
-  narrow r room rest e near = record { within = near .within; below = near .below; above = λ k h g. near .above k (omega arith) g }
-
 module _ (l : List ℕ) (live c : ℕ) (rise : Rising l live) (r room m n rest : ℕ) (near : Near l live c r room) where
   -- place m is below c
-  pub up : n ≡ suc m → n ≤ live → r + room ≤ n + rest → getD l m 0 < c → Near l live c n rest
+  pub up : n ≡ suc m → n ≤ live → min (r + room) live ≤ n + rest → getD l m 0 < c → Near l live c n rest
   up e g h lt =
       record {
         within = g;
@@ -44,6 +37,47 @@ module _ (l : List ℕ) (live c : ℕ) (rise : Rising l live) (r room m n rest :
       above : (k : ℕ) → r + rest ≤ k → k < live → Dec (m < k) → c ≤ getD l k 0
       above k f p (yes q) = omega (arith, rise .rises m k q p)
       above k f p (no q) = let e : k ≡ m = omega arith in rw e ge
+
+-- the live places end at m, r of them below c: one more
+module _ (l : List ℕ) (c r m n : ℕ) (near : Near l m c r 0) (next : n ≡ suc m) where
+  pub counted : (live s : ℕ) → Rising l live → m < live → s ≡ suc r → getD l m 0 < c → Near l n c s 0
+  counted live s rise h e lt =
+      record {
+        within = omega (arith, near .within);
+        below = λ k f. below k f (decLt k m);
+        above = λ k f p. omega (arith, near .above r (omega arith) (omega arith), rise .rises r m (omega arith) h);
+      }
+    where
+      below : (k : ℕ) → k < s → Dec (k < m) → getD l k 0 < c
+      below k f (yes p) = omega (arith, rise .rises k m p h)
+      below k f (no p) = let q : k ≡ m = omega (arith, near .within) in rw q lt
+
+  pub passed : c ≤ getD l m 0 → Near l n c r 0
+  passed ge =
+      record {
+        within = omega (arith, near .within);
+        below = near .below;
+        above = λ k f p. above k f p (decLt k m);
+      }
+    where
+      above : (k : ℕ) → r + 0 ≤ k → k < n → Dec (k < m) → c ≤ getD l k 0
+      above k f p (yes q) = near .above k f q
+      above k f p (no q) = let e : k ≡ m = omega arith in rw e ge
+
+module _ (l : List ℕ) (live c r room : ℕ) (near : Near l live c r room) where
+  pub none-counted : (m : ℕ) → m ≡ r → Near l m c m 0
+  none-counted m e = record { within = omega arith; below = λ k h. near .below k (omega arith); above = λ k h g. omega arith }
+
+  pub all-counted : (m s : ℕ) → m ≤ live → r + room ≤ m → Near l m c s 0 → Near l live c s 0
+  all-counted m s h g part = record { within = omega (arith, part .within); below = part .below; above = λ k f p. above k f p (decLt k m) }
+    where
+      above : (k : ℕ) → s + 0 ≤ k → k < live → Dec (k < m) → c ≤ getD l k 0
+      above k f p (yes q) = part .above k f q
+      above k f p (no q) = near .above k (omega arith) p
+
+  -- from further back, so that the room stays inside
+  pub back : (s : ℕ) → s ≤ r → min (r + room) live ≤ s + room → Near l live c s room
+  back s h g = record { within = omega (arith, near .within); below = λ k f. near .below k (omega arith); above = λ k f p. near .above k (omega arith) p }
 
 slot-at : (l : List ℕ) (n c i : ℕ) → n ≤ length l → i < n → ((k : ℕ) → k < i → getD l k 0 < c) → getD l i 0 ≡ c → slotOf c (take n l) ≡ Slot.At i
 unfolding slotOf further

@@ -1,7 +1,7 @@
 // Edits of one column, and the search of a channel in its column.
 ghost use mathlib.Core.Path.{_≡_};
 ghost use mathlib.Core.Bool.{true};
-ghost use Prim.Native.Nat.{_≤_, _<_};
+ghost use Prim.Native.Nat.{_+_, _≤_, _<_, min};
 ghost use lib.ListN.{length, take};
 ghost use Rattle.tables.specs.Columns.{laid, insertedAt, removedAt, ascending};
 ghost use Rattle.tables.specs.Search.{Rising, Near};
@@ -22,22 +22,67 @@ pub fn ascending(channels: &[u32], live: usize) -> bool
     ok
 }
 
+fn least(a: usize, b: usize) -> usize
+    ensures { λ r. ⌜ r ≡ min a b ⌝ }
+{
+    if a < b { a } else { b }
+}
+
+// One halving. It looks at one place and chooses between two numbers: no branch for the processor to guess.
+fn step(channels: &[u32], live: usize, base: usize, half: usize, channel: u32) -> usize
+    requires { ⌜ Rising (now channels) live × (0 < live) × (0 < half) × (half ≤ 2048) × Near (now channels) live channel base (half + half) ⌝ }
+    ensures { λ r. ⌜ Near (now (channels .entry)) live channel r half ⌝ }
+{
+    let next = least(base + half, live);
+    if channels[next - 1] < channel {
+        return next;
+    }
+    base
+}
+
+// To within 256 places; a table of no more takes no step.
+fn high(channels: &[u32], live: usize, channel: u32) -> usize
+    requires { ⌜ Rising (now channels) live × (0 < live) ⌝ }
+    ensures { λ r. ⌜ Near (now (channels .entry)) live channel r 256 ⌝ }
+{
+    if live <= 256 {
+        return 0;
+    }
+    let first = step(channels, live, 0, 2048, channel);
+    let second = step(channels, live, first, 1024, channel);
+    let third = step(channels, live, second, 512, channel);
+    step(channels, live, third, 256, channel)
+}
+
+// The last n places are counted, all of them, as vector code.
+fn count(channels: &[u32], live: usize, from: usize, n: usize, channel: u32) -> usize
+    requires { ⌜ Rising (now channels) live × (from + n ≤ live) × (n ≤ 32) × Near (now channels) live channel from n ⌝ }
+    ensures { λ r. ⌜ Near (now (channels .entry)) live channel r 0 ⌝ }
+{
+    let mut k: u32 = 0;
+    let mut i: usize = 0;
+    while i < n {
+        if channels[from + i] < channel {
+            k += 1;
+        }
+        i += 1;
+    }
+    from + k as usize
+}
+
 // How many of the live channels are below this one.
 fn below(channels: &[u32], live: usize, channel: u32) -> usize
     requires { ⌜ Rising (now channels) live ⌝ }
     ensures { λ r. ⌜ Near (now (channels .entry)) live channel r 0 ⌝ }
 {
-    let mut low: usize = 0;
-    let mut high = live;
-    while low < high {
-        let middle = (low + high) / 2;
-        if channels[middle] < channel {
-            low = middle + 1;
-        } else {
-            high = middle;
-        }
+    if live < 32 {
+        return count(channels, live, 0, live, channel);
     }
-    low
+    let near256 = high(channels, live, channel);
+    let near128 = step(channels, live, near256, 128, channel);
+    let near64 = step(channels, live, near128, 64, channel);
+    let near32 = step(channels, live, near64, 32, channel);
+    count(channels, live, least(near32, live - 32), 32, channel)
 }
 
 pub fn find(channels: &[u32], live: usize, channel: u32) -> Slot
