@@ -1,11 +1,11 @@
 -- Laws of columns: what is laid is read back; insertion, removal and replacement keep step in columns that stand side by side.
-use mathlib.Core.Path.{_≡_, refl, sym, ap}
+use mathlib.Core.Path.{_≡_, refl, sym, ap, _∙_}
 use mathlib.Core.List.{List, [], _∷_, map}
 use Prim.Native.Nat.{ℕ, zero, suc, _≤_, _<_}
 use native.Mathlib.Nat.{not-suc-le-zero, le-of-suc-le-suc}
 use native.Mathlib.Omega.{arith}
 use lib.ListN.{length, getD, set, take, drop}
-use lib.Seq.{take-append-seam}
+use lib.Seq.{length-take-le, take-append-seam}
 use Rattle.tables.specs.Columns.{laid, insertedAt, removedAt, beside}
 
 module _ {A : Type 0} where
@@ -43,6 +43,29 @@ module _ {A : Type 0} where
   length-removed i [] h = absurd (not-suc-le-zero h)
   length-removed zero (y ∷ l) h = refl
   length-removed (suc i) (y ∷ l) h = ap suc (length-removed i l (le-of-suc-le-suc h))
+
+-- a column after an edit: its length, and what its live places hold
+module _ {A : Type 0} (live i : ℕ) (m : List A) (fits : live ≤ length m) where
+  live-inserted : (x : A) → i ≤ live → length (insertedAt i x (take live m)) ≡ suc live
+  live-inserted x h = let e : length (take live m) ≡ live = length-take-le live m fits in length-inserted i x (take live m) (omega arith) ∙ ap suc e
+
+  live-removed : i < live → suc (length (removedAt i (take live m))) ≡ live
+  live-removed h = let e : length (take live m) ≡ live = length-take-le live m fits in length-removed i (take live m) (omega arith) ∙ e
+
+  pub size-inserted : (x : A) → i ≤ live → live < length m → length (laid (insertedAt i x (take live m)) m) ≡ length m
+  size-inserted x h f = length-laid (insertedAt i x (take live m)) m (omega (arith, live-inserted x h))
+
+  pub size-removed : i < live → length (laid (removedAt i (take live m)) m) ≡ length m
+  size-removed h = length-laid (removedAt i (take live m)) m (omega (arith, live-removed h))
+
+  pub take-inserted : (n : ℕ) (x : A) → n ≡ suc live → i ≤ live → take n (laid (insertedAt i x (take live m)) m) ≡ insertedAt i x (take live m)
+  take-inserted n x e h =
+      ap (λ (k : ℕ). take k (laid (insertedAt i x (take live m)) m)) (e ∙ sym (live-inserted x h)) ∙ take-laid (insertedAt i x (take live m)) m
+
+  pub take-removed : (n : ℕ) → suc n ≡ live → i < live → take n (laid (removedAt i (take live m)) m) ≡ removedAt i (take live m)
+  take-removed n e h =
+      let f : n ≡ length (removedAt i (take live m)) = omega (arith, live-removed h) in
+      ap (λ (k : ℕ). take k (laid (removedAt i (take live m)) m)) f ∙ take-laid (removedAt i (take live m)) m
 
 module _ {A B : Type 0} where
   pub inserted-map : (f : A → B) (i : ℕ) (x : A) (l : List A) → map f (insertedAt i x l) ≡ insertedAt i (f x) (map f l)
