@@ -4,3 +4,4 @@ pub mod Searches
 pub mod Columns
 pub mod Puts
 pub mod Join
+pub mod Held

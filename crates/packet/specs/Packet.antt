@@ -1,0 +1,125 @@
+-- Document 01's "A packet": what a reading call answers at a cursor.
+use Prim.Native.Nat.{ℕ, _+_, _*_, _-_}
+use mathlib.Core.Bool.{Bool, true, false, not, _&&_, cond}
+use mathlib.Core.List.{List}
+use lib.Count.{leadingZeros}
+use lib.Dec.{eqb, leb, ltb}
+use lib.IntN.{ℤ}
+use lib.ListN.{length, getD}
+use mir.Val.{boolByte}
+use Rattle.bitio.specs.declared.Window.{Window}
+use Rattle.bitio.specs.Floats.{signed}
+use Rattle.bitio.specs.Parse.{advanced}
+use Rattle.bitio.specs.Windows.{front}
+use Rattle.tables.specs.Tables.{Table, without}
+use Rattle.types.specs.declared.RawBunchHeader.{RawBunchHeader}
+use Rattle.types.specs.declared.PartialSequenceKind.{PartialSequenceKind}
+use Rattle.types.specs.Types.{reasonOf}
+use Rattle.packet.specs.declared.BunchFields.{BunchFields}
+use Rattle.packet.specs.Header.{Header, unreadable, readable, headerOf, fields}
+use Rattle.packet.specs.Sequences.{Numbered, numbered}
+use Rattle.packet.specs.Partials.{Partial, Tracked, tracking, effected, inFlight}
+
+-- the reader's two tables
+pub record Channels : Type 0 where
+  pub sequences : Table ℕ
+  pub partials : Table Partial
+
+pub data Outcome : Type 0 where
+  bunch : RawBunchHeader → Window → Outcome
+  end : Outcome
+  malformed : Outcome
+
+-- "one bunch, the end or malformed, the next cursor, and by how much the Rust's counts rise"; and the tables afterwards
+pub record Read : Type 0 where
+  pub outcome : Outcome
+  pub next : ℕ
+  pub bunches : ℕ
+  pub malformedPackets : ℕ
+  pub partialErrors : ℕ
+  pub channelLimits : ℕ
+  pub channels : Channels
+
+abbrev pub lastByte : List ℕ → ℕ
+lastByte d = getD d (length d - 1) 0
+
+-- "the highest set bit of the last byte, found by counting its leading zeros, is the end mark; bits before it are data"; "bit 0
+-- without an end mark"
+unfoldable pub dataBits : List ℕ → ℕ
+dataBits d = cond (eqb (lastByte d) 0) 0 (8 * length d - 1 - leadingZeros 8 (lastByte d))
+
+-- "after the end or malformed it stands at the data's end"
+abbrev pub ended : List ℕ → Channels → Read
+ended d t = record { outcome = end; next = dataBits d; bunches = 0; malformedPackets = 0; partialErrors = 0; channelLimits = 0; channels = t }
+
+abbrev pub broken : List ℕ → Bool → Channels → Read
+broken d limited t = record { outcome = malformed; next = dataBits d; bunches = 0; malformedPackets = 1; partialErrors = 0; channelLimits = boolByte limited; channels = t }
+
+abbrev pub header : BunchFields → ℤ → ℕ → Numbered → Tracked → RawBunchHeader
+header f id at n k =
+    record {
+      «packet_id» = id;
+      «ch_index» = f .«ch_index»;
+      «b_open» = f .«b_open»;
+      «b_close» = f .«b_close»;
+      «b_dormant» = eqb (f .«close_reason») 1;
+      «b_is_replication_paused» = f .«b_is_replication_paused»;
+      «b_reliable» = f .«b_reliable»;
+      «b_partial» = f .«b_partial»;
+      «b_partial_initial» = f .«b_partial_initial»;
+      «b_partial_final» = f .«b_partial_final»;
+      «b_has_package_map_exports» = f .«b_has_package_map_exports»;
+      «b_has_must_be_mapped_guids» = f .«b_has_must_be_mapped_guids»;
+      «ch_sequence» = signed (n .sequence);
+      «close_reason» = reasonOf (f .«close_reason»);
+      «payload_bit_count» = f .«payload_bit_count»;
+      «payload_bit_offset» = at;
+      «has_partial_error» = k .error;
+      «partial_error_kind» = PartialSequenceKind.None;
+      «is_partial_completed» = k .completed;
+      «has_channel_limit_error» = n .limited;
+    }
+
+-- "A close that isn't dormant then retires the channel from both tables."
+abbrev pub retired : Bool → ℕ → Channels → Channels
+retired true c t = record { sequences = without c (t .sequences); partials = without c (t .partials) }
+retired false c t = t
+
+abbrev pub retires : BunchFields → Bool
+retires f = f .«b_close» && not (eqb (f .«close_reason») 1)
+
+-- the payload's window, its place counted both ways
+abbrev pub payload : ℕ → ℕ → Window
+payload at n = record { start = record { 0 = at }; position = record { 0 = 0 }; length = n }
+
+-- a header that was read, its payload from bit `at` on
+unfoldable pub whole : BunchFields → ℤ → ℕ → Numbered → Tracked → Table Partial → Read
+whole f id at n k t =
+    record {
+      outcome = bunch (header f id at n k) (payload at (f .«payload_bit_count»));
+      next = at + f .«payload_bit_count»;
+      bunches = 1;
+      malformedPackets = 0;
+      partialErrors = boolByte (k .error);
+      channelLimits = boolByte (n .limited);
+      channels = retired (retires f) (f .«ch_index») (record { sequences = n .table; partials = effected (k .effect) (f .«ch_index») (inFlight f (n .sequence)) t });
+    }
+
+-- "The sequence is stored and the limit count raised before the payload is compared with what remains; an overrun makes the
+-- packet malformed and undoes neither."
+abbrev pub compared : List ℕ → BunchFields → ℤ → ℕ → ℕ → Numbered → Table Partial → Read
+compared d f id at limit n t =
+    cond (ltb (dataBits d - at) (f .«payload_bit_count»)) (broken d (n .limited) (record { sequences = n .table; partials = t }))
+    (whole f id at n (tracking limit f (n .sequence) (n .limited) t) t)
+
+abbrev pub headed : List ℕ → ℤ → ℕ → Header → Channels → Read
+headed d id limit unreadable t = broken d false t
+headed d id limit (readable f at) t = compared d f id at limit (numbered limit id f (t .sequences)) (t .partials)
+
+-- "Empty: no bunches, not malformed. Last byte 0: malformed." "Until data ends", a header
+unfoldable pub nextBunch : ℕ → List ℕ → ℤ → ℕ → Channels → Read
+nextBunch limit d id at t =
+    cond (eqb (length d) 0) (ended d t)
+    (cond (eqb (lastByte d) 0) (broken d false t)
+    (cond (leb (dataBits d) at) (ended d t)
+    (headed d id limit (headerOf (fields d (advanced (front (dataBits d)) at))) t)))

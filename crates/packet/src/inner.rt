@@ -1,0 +1,4 @@
+// One bunch, over tables that have been tested.
+pub mod header;
+pub mod partials;
+pub mod sequences;
