@@ -5,7 +5,8 @@ use mathlib.Core.List.{List, [], _∷_}
 use Prim.Native.Nat.{ℕ, zero, suc, _≤_, _<_}
 use native.Mathlib.Omega.{arith}
 use lib.Dec.{eqb, ltb}
-use lib.ListN.{length, getD, set}
+use lib.ListN.{length, getD, set, take}
+use lib.Seq.{length-take-le}
 use borrow.Author.Tests.{eqb-true, eqb-false, ltb-true, ltb-false, lt-ltb}
 use Rattle.tables.specs.declared.Slot.{Slot}
 use Rattle.tables.specs.Columns.{insertedAt, removedAt, beside, above, ascending}
@@ -154,3 +155,11 @@ module _ (c i : ℕ) (cs : List ℕ) (slot : slotOf c cs ≡ Slot.Free i) where
   inserted-ascends ascends =
       let e : channels (put c c (entries cs cs)) ≡ insertedAt i c cs = rw (free-put cs refl ascends c) (beside-first (insertedAt i c cs) (insertedAt i c cs) refl) in
       rw e at (put-ascends c c (entries cs cs) (rw (beside-first cs cs refl) ascends))
+
+-- the same of a column's live places
+module _ (c i live : ℕ) (m : List ℕ) (fits : live ≤ length m) where
+  pub at-live : slotOf c (take live m) ≡ Slot.At i → i < live
+  at-live slot = omega (arith, at-within c i (take live m) slot, length-take-le live m fits)
+
+  pub free-live : slotOf c (take live m) ≡ Slot.Free i → i ≤ live
+  free-live slot = omega (arith, free-within c i (take live m) slot, length-take-le live m fits)
