@@ -21,7 +21,7 @@ laid-as : (ch nu : List ℕ) {t : Table ℕ} {cs vs : List ℕ} {n word : ℕ} {
     → sequencesLaid (record { sequence = word; limited = limited; table = t }) ch nu ≡ record { sequence = word; limited = limited; live = n; channels = laid cs ch; numbers = laid vs nu }
 laid-as ch nu h = rw (h .first, h .second, h .size)
 
-module _ {limit live : ℕ} (c i : ℕ) (ch nu : List ℕ) (fits : Fits limit live ch) (size : limit ≤ length nu) where
+module _ {limit live : ℕ} (ch nu : List ℕ) (fits : Fits limit live ch) (size : limit ≤ length nu) where
   abbrev t : Table ℕ
   t = sequencesAt live ch nu
 
@@ -35,7 +35,7 @@ module _ {limit live : ℕ} (c i : ℕ) (ch nu : List ℕ) (fits : Fits limit li
       ≡ record { sequence = word; limited = limited; live = live; channels = ch; numbers = nu }
   same-sequences word limited = rw (laid-take live ch, laid-take live nu) at (laid-as ch nu {word = word} {limited = limited} (holds (take live ch) (take live nu) long wide))
 
-  module _ (slot : slotOf c (take live ch) ≡ Slot.At i) where
+  module _ (c i : ℕ) (slot : slotOf c (take live ch) ≡ Slot.At i) where
     pub at-inside : i < live
     at-inside = rw long at (at-within c i (take live ch) slot)
 
@@ -54,7 +54,7 @@ module _ {limit live : ℕ} (c i : ℕ) (ch nu : List ℕ) (fits : Fits limit li
         rw (before, ne-eqb (getD nu i 0) lastSequence h)
         (rw (laid-take live ch, sym (laid-set live i (following (getD nu i 0)) nu at-inside)) at (laid-as ch nu {word = following (getD nu i 0)} {limited = false} (at-put-holds c i (take live ch) (take live nu) long wide (fits .ascends) slot (following (getD nu i 0)))))
 
-  module _ (slot : slotOf c (take live ch) ≡ Slot.Free i) where
+  module _ (c i : ℕ) (slot : slotOf c (take live ch) ≡ Slot.Free i) where
     absent : get c t ≡ none
     absent = free-get c i (take live ch) slot (take live nu) (long ∙ sym wide) (fits .ascends)
 

@@ -5,6 +5,8 @@ use mathlib.Core.List.{List, [], _∷_}
 use lib.Dec.{ltb}
 use lib.IntN.{ℤ}
 use lib.ListN.{length}
+use mir.Syntax.{w32}
+use mir.Val.{ofZ}
 use Rattle.bitio.specs.Refusals.{Refusal, beyond}
 use Rattle.bitio.specs.Parse.{Result, value, refusal}
 use Rattle.packet.specs.declared.PacketError.{PacketError}
@@ -66,6 +68,7 @@ ofRead r m =
       memory = m;
     }
 
+-- A place that a retired channel leaves keeps what stood there.
 abbrev pub reply : P.Read → Memory → Reply
 reply x m =
     record {
@@ -77,7 +80,7 @@ reply x m =
       channelLimits = x .channelLimits;
       sequences = length (x .channels .sequences);
       partials = length (x .channels .partials);
-      memory = laidIn (x .channels) m;
+      memory = laidIn (x .channels) (laidIn (x .held) m);
     }
 
 -- "These change no lent byte or state."
@@ -95,13 +98,14 @@ refuses e at r m =
       memory = m;
     }
 
+-- The packet id goes in as its word (crates/packet/proofs/Words.antt: a word's number is the id again).
 -- "Calls on state or packets test 10, 8"; "A packet cursor past the data's end … is 5 likewise, after 8"
 unfoldable pub readBunch : List ℕ → ℤ → ℕ → Reader → Memory → Reply
 readBunch d id at r m =
     cond (sound (r .«max_channels») (r .sequences) (r .partials) m)
     (cond (ltb 65535 (length d)) (refuses (packetTooLong (length d)) at r m)
     (cond (ltb (P.dataBits d) at) (refuses (beyond at (P.dataBits d)) at r m)
-    (reply (P.nextBunch (r .«max_channels») d id at (channelsOf (r .sequences) (r .partials) m)) m)))
+    (reply (P.nextBunch (r .«max_channels») d (ofZ w32 id) at (channelsOf (r .sequences) (r .partials) m)) m)))
     (refuses unsound at r m)
 
 abbrev pub ofOpened : Opened → Result Reader

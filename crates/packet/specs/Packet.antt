@@ -4,7 +4,6 @@ use mathlib.Core.Bool.{Bool, true, false, not, _&&_, cond}
 use mathlib.Core.List.{List}
 use lib.Count.{leadingZeros}
 use lib.Dec.{eqb, leb, ltb}
-use lib.IntN.{ℤ}
 use lib.ListN.{length, getD}
 use mir.Val.{boolByte}
 use Rattle.bitio.specs.declared.Window.{Window}
@@ -30,7 +29,8 @@ pub data Outcome : Type 0 where
   end : Outcome
   malformed : Outcome
 
--- "one bunch, the end or malformed, the next cursor, and by how much the Rust's counts rise"; and the tables afterwards
+-- "one bunch, the end or malformed, the next cursor, and by how much the Rust's counts rise"; and the tables before and after a
+-- close retires its channel
 pub record Read : Type 0 where
   pub outcome : Outcome
   pub next : ℕ
@@ -38,6 +38,7 @@ pub record Read : Type 0 where
   pub malformedPackets : ℕ
   pub partialErrors : ℕ
   pub channelLimits : ℕ
+  pub held : Channels
   pub channels : Channels
 
 abbrev pub lastByte : List ℕ → ℕ
@@ -50,15 +51,15 @@ dataBits d = cond (eqb (lastByte d) 0) 0 (8 * length d - 1 - leadingZeros 8 (las
 
 -- "after the end or malformed it stands at the data's end"
 abbrev pub ended : List ℕ → Channels → Read
-ended d t = record { outcome = end; next = dataBits d; bunches = 0; malformedPackets = 0; partialErrors = 0; channelLimits = 0; channels = t }
+ended d t = record { outcome = end; next = dataBits d; bunches = 0; malformedPackets = 0; partialErrors = 0; channelLimits = 0; held = t; channels = t }
 
 abbrev pub broken : List ℕ → Bool → Channels → Read
-broken d limited t = record { outcome = malformed; next = dataBits d; bunches = 0; malformedPackets = 1; partialErrors = 0; channelLimits = boolByte limited; channels = t }
+broken d limited t = record { outcome = malformed; next = dataBits d; bunches = 0; malformedPackets = 1; partialErrors = 0; channelLimits = boolByte limited; held = t; channels = t }
 
-abbrev pub header : BunchFields → ℤ → ℕ → Numbered → Tracked → RawBunchHeader
-header f id at n k =
+abbrev pub header : BunchFields → ℕ → ℕ → ℕ → Bool → Bool → Bool → RawBunchHeader
+header f id at sequence limited error completed =
     record {
-      «packet_id» = id;
+      «packet_id» = signed id;
       «ch_index» = f .«ch_index»;
       «b_open» = f .«b_open»;
       «b_close» = f .«b_close»;
@@ -70,14 +71,14 @@ header f id at n k =
       «b_partial_final» = f .«b_partial_final»;
       «b_has_package_map_exports» = f .«b_has_package_map_exports»;
       «b_has_must_be_mapped_guids» = f .«b_has_must_be_mapped_guids»;
-      «ch_sequence» = signed (n .sequence);
+      «ch_sequence» = signed sequence;
       «close_reason» = reasonOf (f .«close_reason»);
       «payload_bit_count» = f .«payload_bit_count»;
       «payload_bit_offset» = at;
-      «has_partial_error» = k .error;
+      «has_partial_error» = error;
       «partial_error_kind» = PartialSequenceKind.None;
-      «is_partial_completed» = k .completed;
-      «has_channel_limit_error» = n .limited;
+      «is_partial_completed» = completed;
+      «has_channel_limit_error» = limited;
     }
 
 -- "A close that isn't dormant then retires the channel from both tables."
@@ -92,32 +93,37 @@ retires f = f .«b_close» && not (eqb (f .«close_reason») 1)
 abbrev pub payload : ℕ → ℕ → Window
 payload at n = record { start = record { 0 = at }; position = record { 0 = 0 }; length = n }
 
+-- the tables with a bunch's sequence stored and its fragment tracked
+abbrev pub holding : BunchFields → Numbered → Tracked → Table Partial → Channels
+holding f n k t = record { sequences = n .table; partials = effected (k .effect) (f .«ch_index») (inFlight f (n .sequence)) t }
+
 -- a header that was read, its payload from bit `at` on
-unfoldable pub whole : BunchFields → ℤ → ℕ → Numbered → Tracked → Table Partial → Read
+unfoldable pub whole : BunchFields → ℕ → ℕ → Numbered → Tracked → Table Partial → Read
 whole f id at n k t =
     record {
-      outcome = bunch (header f id at n k) (payload at (f .«payload_bit_count»));
+      outcome = bunch (header f id at (n .sequence) (n .limited) (k .error) (k .completed)) (payload at (f .«payload_bit_count»));
       next = at + f .«payload_bit_count»;
       bunches = 1;
       malformedPackets = 0;
       partialErrors = boolByte (k .error);
       channelLimits = boolByte (n .limited);
-      channels = retired (retires f) (f .«ch_index») (record { sequences = n .table; partials = effected (k .effect) (f .«ch_index») (inFlight f (n .sequence)) t });
+      held = holding f n k t;
+      channels = retired (retires f) (f .«ch_index») (holding f n k t);
     }
 
 -- "The sequence is stored and the limit count raised before the payload is compared with what remains; an overrun makes the
 -- packet malformed and undoes neither."
-abbrev pub compared : List ℕ → BunchFields → ℤ → ℕ → ℕ → Numbered → Table Partial → Read
+abbrev pub compared : List ℕ → BunchFields → ℕ → ℕ → ℕ → Numbered → Table Partial → Read
 compared d f id at limit n t =
     cond (ltb (dataBits d - at) (f .«payload_bit_count»)) (broken d (n .limited) (record { sequences = n .table; partials = t }))
     (whole f id at n (tracking limit f (n .sequence) (n .limited) t) t)
 
-abbrev pub headed : List ℕ → ℤ → ℕ → Header → Channels → Read
+abbrev pub headed : List ℕ → ℕ → ℕ → Header → Channels → Read
 headed d id limit unreadable t = broken d false t
 headed d id limit (readable f at) t = compared d f id at limit (numbered limit id f (t .sequences)) (t .partials)
 
 -- "Empty: no bunches, not malformed. Last byte 0: malformed." "Until data ends", a header
-unfoldable pub nextBunch : ℕ → List ℕ → ℤ → ℕ → Channels → Read
+unfoldable pub nextBunch : ℕ → List ℕ → ℕ → ℕ → Channels → Read
 nextBunch limit d id at t =
     cond (eqb (length d) 0) (ended d t)
     (cond (eqb (lastByte d) 0) (broken d false t)

@@ -1,11 +1,8 @@
--- The sequence of a bunch. A sequence is held as its word, the two's complement of 32 bits.
+-- The sequence of a bunch. Sequences and packet ids are held as words, the two's complement of 32 bits.
 use Prim.Native.Nat.{ℕ, _+_, _%_, _^_}
 use mathlib.Core.Bool.{Bool, true, false, cond}
 use lib.Dec.{eqb, leb}
-use lib.IntN.{ℤ}
 use lib.ListN.{length}
-use mir.Syntax.{w32}
-use mir.Val.{ofZ}
 use Rattle.tables.specs.Tables.{Table, Found, none, found, get, put}
 use Rattle.packet.specs.declared.BunchFields.{BunchFields}
 
@@ -37,7 +34,8 @@ unfoldable pub reliably : ℕ → ℕ → Table ℕ → Numbered
 reliably limit c t = onward limit c t (get c t)
 
 -- "Unreliable partial: the packet id. Otherwise 0."
-unfoldable pub numbered : ℕ → ℤ → BunchFields → Table ℕ → Numbered
-numbered limit id f t =
-    cond (f .«b_reliable») (reliably limit (f .«ch_index») t)
-    (record { sequence = cond (f .«b_partial») (ofZ w32 id) 0; limited = false; table = t })
+unfoldable pub unreliable : BunchFields → ℕ → ℕ
+unreliable f id = cond (f .«b_partial») id 0
+
+unfoldable pub numbered : ℕ → ℕ → BunchFields → Table ℕ → Numbered
+numbered limit id f t = cond (f .«b_reliable») (reliably limit (f .«ch_index») t) (record { sequence = unreliable f id; limited = false; table = t })

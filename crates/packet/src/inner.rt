@@ -1,4 +1,5 @@
 // One bunch, over tables that have been tested.
+pub mod bunch;
 pub mod header;
 pub mod partials;
 pub mod sequences;

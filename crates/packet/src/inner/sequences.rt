@@ -20,7 +20,7 @@ pub fn following(word: u32) -> u32
     if word == 4294967295 { 0 } else { word + 1 }
 }
 
-fn reliably(
+pub fn reliably(
     channels: &mut [u32],
     numbers: &mut [u32],
     live: usize,

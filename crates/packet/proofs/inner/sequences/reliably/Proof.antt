@@ -23,54 +23,54 @@ mul-previous : tie.Need-mul-previous
 mul-previous c =
     let a = c .before .before .before .before .before .before .before .args in
     let p = c .before .before .before .before .before .before .before .pre in
-    let h = at-inside (a .channel) (c .before .i .given .0 .0) (a .channels .now) (a .numbers .now) (p .0) (p .1) (sym (c .before .before .before .find .ensures) ∙ c .before .i .given .1) in
+    let h = at-inside (a .channels .now) (a .numbers .now) (p .0) (p .1) (a .channel) (c .before .i .given .0 .0) (sym (c .before .before .before .find .ensures) ∙ c .before .i .given .1) in
     omega (arith, h, p .0 .few, p .0 .live-fits)
 
 slice-read-previous : tie.Need-slice-read-previous
 slice-read-previous c =
     let a = c .before .before .before .before .before .before .before .before .args in
     let p = c .before .before .before .before .before .before .before .before .pre in
-    let h = at-inside (a .channel) (c .before .before .i .given .0 .0) (a .channels .now) (a .numbers .now) (p .0) (p .1) (sym (c .before .before .before .before .find .ensures) ∙ c .before .before .i .given .1) in
+    let h = at-inside (a .channels .now) (a .numbers .now) (p .0) (p .1) (a .channel) (c .before .before .i .given .0 .0) (sym (c .before .before .before .before .find .ensures) ∙ c .before .before .i .given .1) in
     omega (arith, h, p .1, p .0 .live-fits)
 
 returns : tie.Need-returns
 returns c =
     let a = c .before .before .before .before .before .before .before .before .before .args in
     let p = c .before .before .before .before .before .before .before .before .before .pre in
-    sym (at-last (a .channel) (c .before .before .before .i .given .0 .0) (a .channels .now) (a .numbers .now) (p .0) (p .1) (sym (c .before .before .before .before .before .find .ensures) ∙ c .before .before .before .i .given .1) (c .if1 .taken))
+    sym (at-last (a .channels .now) (a .numbers .now) (p .0) (p .1) (a .channel) (c .before .before .before .i .given .0 .0) (sym (c .before .before .before .before .before .find .ensures) ∙ c .before .before .before .i .given .1) (c .if1 .taken))
 
 mul-numbers : tie.Need-mul-numbers
 mul-numbers c =
     let a = c .before .before .before .before .before .before .before .before .before .before .args in
     let p = c .before .before .before .before .before .before .before .before .before .before .pre in
-    let h = at-inside (a .channel) (c .before .before .before .before .i .given .0 .0) (a .channels .now) (a .numbers .now) (p .0) (p .1) (sym (c .before .before .before .before .before .before .find .ensures) ∙ c .before .before .before .before .i .given .1) in
+    let h = at-inside (a .channels .now) (a .numbers .now) (p .0) (p .1) (a .channel) (c .before .before .before .before .i .given .0 .0) (sym (c .before .before .before .before .before .before .find .ensures) ∙ c .before .before .before .before .i .given .1) in
     omega (arith, h, p .0 .few, p .0 .live-fits)
 
 slice-write-numbers : tie.Need-slice-write-numbers
 slice-write-numbers c =
     let a = c .before .before .before .before .before .before .before .before .before .before .args in
     let p = c .before .before .before .before .before .before .before .before .before .before .pre in
-    let h = at-inside (a .channel) (c .before .before .before .before .i .given .0 .0) (a .channels .now) (a .numbers .now) (p .0) (p .1) (sym (c .before .before .before .before .before .before .find .ensures) ∙ c .before .before .before .before .i .given .1) in
+    let h = at-inside (a .channels .now) (a .numbers .now) (p .0) (p .1) (a .channel) (c .before .before .before .before .i .given .0 .0) (sym (c .before .before .before .before .before .before .find .ensures) ∙ c .before .before .before .before .i .given .1) in
     omega (arith, h, p .1, p .0 .live-fits)
 
 returns-2 : tie.Need-returns-2
 returns-2 c =
     let a = c .before .before .before .before .before .before .before .before .args in
     let p = c .before .before .before .before .before .before .before .before .pre in
-    sym (free-full (a .channel) (c .before .before .i2 .given .0 .0) (a .channels .now) (a .numbers .now) (p .0) (p .1) (sym (c .before .before .before .before .find .ensures) ∙ c .before .before .i2 .given .1) (c .if2 .taken))
+    sym (free-full (a .channels .now) (a .numbers .now) (p .0) (p .1) (a .channel) (c .before .before .i2 .given .0 .0) (sym (c .before .before .before .before .find .ensures) ∙ c .before .before .i2 .given .1) (c .if2 .taken))
 
 insert-requires : tie.Need-insert-requires
 insert-requires c κs =
     let a = c .before .before .before .before .before .before .before .before .before .args in
     let p = c .before .before .before .before .before .before .before .before .before .pre in
-    let h = free-inside (a .channel) (c .before .before .before .i2 .given .0 .0) (a .channels .now) (a .numbers .now) (p .0) (p .1) (sym (c .before .before .before .before .before .find .ensures) ∙ c .before .before .before .i2 .given .1) in
+    let h = free-inside (a .channels .now) (a .numbers .now) (p .0) (p .1) (a .channel) (c .before .before .before .i2 .given .0 .0) (sym (c .before .before .before .before .before .find .ensures) ∙ c .before .before .before .i2 .given .1) in
     (h, omega (arith, p .0 .room, c .before .if2 .left))
 
 insert-requires-2 : tie.Need-insert-requires-2
 insert-requires-2 c κs =
     let a = c .before .before .before .before .before .before .before .before .before .before .before .before .before .args in
     let p = c .before .before .before .before .before .before .before .before .before .before .before .before .before .pre in
-    let h = free-inside (a .channel) (c .before .before .before .before .before .before .before .i2 .given .0 .0) (a .channels .now) (a .numbers .now) (p .0) (p .1) (sym (c .before .before .before .before .before .before .before .before .before .find .ensures) ∙ c .before .before .before .before .before .before .before .i2 .given .1) in
+    let h = free-inside (a .channels .now) (a .numbers .now) (p .0) (p .1) (a .channel) (c .before .before .before .before .before .before .before .i2 .given .0 .0) (sym (c .before .before .before .before .before .before .before .before .before .find .ensures) ∙ c .before .before .before .before .before .before .before .i2 .given .1) in
     (h, omega (arith, p .1, c .before .before .before .before .before .if2 .left))
 
 returns-3 : tie.Need-returns-3
@@ -78,7 +78,7 @@ returns-3 c =
     let a = c .before .before .before .before .before .before .before .before .before .before .args in
     let p = c .before .before .before .before .before .before .before .before .before .before .pre in
     rw (c .following .ensures)
-    (sym (at-next (a .channel) (c .before .before .before .before .i .given .0 .0) (a .channels .now) (a .numbers .now) (p .0) (p .1) (sym (c .before .before .before .before .before .before .find .ensures) ∙ c .before .before .before .before .i .given .1) (c .before .if1 .left)))
+    (sym (at-next (a .channels .now) (a .numbers .now) (p .0) (p .1) (a .channel) (c .before .before .before .before .i .given .0 .0) (sym (c .before .before .before .before .before .before .find .ensures) ∙ c .before .before .before .before .i .given .1) (c .before .if1 .left)))
 
 returns-4 : tie.Need-returns-4
 returns-4 c =
@@ -86,7 +86,7 @@ returns-4 c =
     let p = c .before .before .before .before .before .before .before .before .before .before .before .before .before .before .before .before .pre in
     let n : a .live + 1 ≡ suc (a .live) = omega arith in
     rw (c .before .before .before .before .before .before .insert .ensures, c .before .before .insert2 .ensures, n)
-    (sym (free-new (a .channel) (c .before .before .before .before .before .before .before .before .before .before .i2 .given .0 .0) (a .channels .now) (a .numbers .now) (p .0) (p .1) (sym (c .before .before .before .before .before .before .before .before .before .before .before .before .find .ensures) ∙ c .before .before .before .before .before .before .before .before .before .before .i2 .given .1) (c .before .before .before .before .before .before .before .before .if2 .left)))
+    (sym (free-new (a .channels .now) (a .numbers .now) (p .0) (p .1) (a .channel) (c .before .before .before .before .before .before .before .before .before .before .i2 .given .0 .0) (sym (c .before .before .before .before .before .before .before .before .before .before .before .before .find .ensures) ∙ c .before .before .before .before .before .before .before .before .before .before .i2 .given .1) (c .before .before .before .before .before .before .before .before .if2 .left)))
 
 pub reliably-spec : {M : Type 1} → statement M
 reliably-spec =
