@@ -6,9 +6,18 @@ use mathlib.Core.List.{List}
 use lib.ListN.{length, take}
 use Rattle.tables.specs.Columns.{ascending}
 use Rattle.types.specs.Types.{mostChannels}
+use Rattle.packet.specs.Memory.{Memory}
 
 pub record Fits (limit live : ℕ) (channels : List ℕ) : Type 0 where
   pub few : limit ≤ mostChannels
   pub live-fits : live ≤ limit
   pub room : limit ≤ length channels
   pub ascends : ascending (take live channels) ≡ true
+
+-- both tables
+pub record State (limit s p : ℕ) (m : Memory) : Type 0 where
+  pub sequences : Fits limit s (m .sequenceChannels)
+  pub numbers : limit ≤ length (m .sequenceNumbers)
+  pub partials : Fits limit p (m .partialChannels)
+  pub partial-sequences : limit ≤ length (m .partialSequences)
+  pub partial-reliables : limit ≤ length (m .partialReliables)

@@ -6,3 +6,4 @@ pub mod Packet
 pub mod Memory
 pub mod Fits
 pub mod Answers
+pub mod Turns

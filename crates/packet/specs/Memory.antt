@@ -20,6 +20,9 @@ pub record Memory : Type 0 where
   pub partialSequences : List ℕ
   pub partialReliables : List ℕ
 
+abbrev pub memory : List ℕ → List ℕ → List ℕ → List ℕ → List ℕ → Memory
+memory a b c d e = record { sequenceChannels = a; sequenceNumbers = b; partialChannels = c; partialSequences = d; partialReliables = e }
+
 abbrev pub sequencesAt : ℕ → List ℕ → List ℕ → Table ℕ
 sequencesAt live channels numbers = entries (take live channels) (take live numbers)
 
@@ -46,17 +49,16 @@ laidIn t m =
     }
 
 -- "the limit at most 4,096 and the lent tables' size"
+abbrev pub fitting : ℕ → ℕ → ℕ → ℕ → ℕ → ℕ → Bool
+fitting limit a b c d e = leb limit mostChannels && leb limit a && leb limit b && leb limit c && leb limit d && leb limit e
+
 unfoldable pub fit : ℕ → Memory → Bool
 fit limit m =
-    leb limit mostChannels
-    && (leb limit (length (m .sequenceChannels))
-    && (leb limit (length (m .sequenceNumbers))
-    && (leb limit (length (m .partialChannels)) && (leb limit (length (m .partialSequences)) && leb limit (length (m .partialReliables))))))
+    fitting limit (length (m .sequenceChannels)) (length (m .sequenceNumbers)) (length (m .partialChannels)) (length (m .partialSequences)) (length (m .partialReliables))
 
 -- "no channel twice, each within the limit"
 unfoldable pub sound : ℕ → ℕ → ℕ → Memory → Bool
-sound limit s p m =
-    fit limit m && (leb s limit && (leb p limit && (ascending (take s (m .sequenceChannels)) && ascending (take p (m .partialChannels)))))
+sound limit s p m = (fit limit m && leb s limit && leb p limit) && (ascending (take s (m .sequenceChannels)) && ascending (take p (m .partialChannels)))
 
 -- What the contracts of `inner` name: a table's numbering, its answer and its columns together.
 pub record NumberedIn : Type 0 where

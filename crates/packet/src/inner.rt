@@ -2,4 +2,5 @@
 pub mod bunch;
 pub mod header;
 pub mod partials;
+pub mod read;
 pub mod sequences;
