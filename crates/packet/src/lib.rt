@@ -4,6 +4,7 @@ use bitio::Window;
 use types::RawBunchHeader;
 
 pub mod inner;
+pub mod packets;
 
 // What the bits of a header say, wherever it stands; the close reason as its number.
 pub struct BunchFields {
