@@ -5,7 +5,7 @@ use Prim.Native.Nat.{ℕ, zero, suc, _≤_, _<_}
 use native.Mathlib.Nat.{not-suc-le-zero, le-of-suc-le-suc}
 use native.Mathlib.Omega.{arith}
 use lib.ListN.{length, getD, set, take, drop}
-use lib.Seq.{length-take-le, take-append-seam}
+use lib.Seq.{length-take-le, take-append-seam, drop-append-seam}
 use Rattle.tables.specs.Columns.{laid, insertedAt, removedAt, beside}
 
 module _ {A : Type 0} where
@@ -24,6 +24,10 @@ module _ {A : Type 0} where
   laid-take zero m = refl
   laid-take (suc n) [] = refl
   laid-take (suc n) (x ∷ m) = ap (λ (t : List A). x ∷ t) (laid-take n m)
+
+  pub laid-twice : (s m : List A) → laid s (laid s m) ≡ laid s m
+  unfolding laid
+  laid-twice s m = rw (drop-append-seam s (drop (length s) m))
 
   pub laid-set : (n i : ℕ) (x : A) (m : List A) → i < n → set m i x ≡ laid (set (take n m) i x) m
   unfolding laid
