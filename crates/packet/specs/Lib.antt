@@ -2,6 +2,7 @@ pub mod Header
 pub mod Row
 pub mod Sequences
 pub mod Partials
+pub mod Judging
 pub mod Packet
 pub mod Memory
 pub mod Fits

@@ -1,0 +1,18 @@
+-- What the code's enums of the partial tracker mean. What the contracts of `inner` name; a reader of the public calls can pass over it.
+use Rattle.tables.specs.Tables.{Found, none, found}
+use Rattle.packet.specs.declared.inner.partials.Held.{Held}
+use Rattle.packet.specs.declared.inner.partials.Effect as I
+use Rattle.packet.specs.declared.inner.partials.Verdict.{Verdict}
+use Rattle.packet.specs.Partials.{Partial, Effect, stays, puts, removed, Tracked, tracked}
+
+abbrev pub heldOf : Held → Found Partial
+heldOf Held.Nothing = none
+heldOf (Held.InFlight sequence reliable) = found (sequence, reliable)
+
+abbrev pub effectOf : I.Effect → Effect
+effectOf I.Effect.Stays = stays
+effectOf I.Effect.Puts = puts
+effectOf I.Effect.Removed = removed
+
+abbrev pub verdictOf : Verdict → Tracked
+verdictOf v = tracked (effectOf (v .effect)) (v .error) (v .completed)
