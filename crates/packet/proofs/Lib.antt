@@ -2,3 +2,5 @@ pub mod Rows
 pub mod Numbering
 pub mod Soundness
 pub mod Turning
+pub mod Tracking
+pub mod Retiring

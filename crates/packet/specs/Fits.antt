@@ -21,3 +21,9 @@ pub record State (limit s p : ℕ) (m : Memory) : Type 0 where
   pub partials : Fits limit p (m .partialChannels)
   pub partial-sequences : limit ≤ length (m .partialSequences)
   pub partial-reliables : limit ≤ length (m .partialReliables)
+
+-- the same without a limit: what finding and removing a channel needs
+pub record Live (live : ℕ) (channels : List ℕ) : Type 0 where
+  pub few : live ≤ mostChannels
+  pub room : live ≤ length channels
+  pub ascends : ascending (take live channels) ≡ true

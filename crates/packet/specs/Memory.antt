@@ -1,5 +1,6 @@
 -- The reader's tables in lent memory: five columns, of which the first places count, by ascending channel.
 use Prim.Native.Nat.{ℕ}
+use mathlib.Core.Path.{_≡_}
 use mathlib.Core.Bool.{Bool, _&&_}
 use mathlib.Core.List.{List}
 use lib.Dec.{leb}
@@ -7,7 +8,8 @@ use lib.ListN.{length, take}
 use Rattle.tables.specs.Columns.{laid, beside, ascending}
 use Rattle.tables.specs.Tables.{Table, channels, values, entries}
 use Rattle.types.specs.Types.{mostChannels}
-use Rattle.packet.specs.Partials.{Partial, Tracked}
+use Rattle.packet.specs.Partials.{Partial, Tracked, effected, inFlight, tracking}
+use Rattle.packet.specs.declared.BunchFields.{BunchFields}
 use Rattle.packet.specs.Packet.{Channels}
 use Rattle.packet.specs.Sequences.{Numbered}
 use Rattle.packet.specs.declared.inner.sequences.Numbered as I
@@ -103,3 +105,23 @@ partialsLaid k t channels' sequences' reliables' =
       sequences = laid (channels (values t)) sequences';
       reliables = laid (values (values t)) reliables';
     }
+
+-- a table with a judgement's effect on it
+abbrev pub effectedIn : Tracked → BunchFields → ℕ → Table Partial → List ℕ → List ℕ → List ℕ → TrackedIn
+effectedIn k f sequence t channels' sequences' reliables' = partialsLaid k (effected (k .effect) (f .«ch_index») (inFlight f sequence) t) channels' sequences' reliables'
+
+abbrev pub tracksTo : ℕ → ℕ → BunchFields → ℕ → Bool → List ℕ → List ℕ → List ℕ → TrackedIn
+tracksTo limit live f sequence limited channels' sequences' reliables' =
+    effectedIn (tracking limit f sequence limited (partialsAt live channels' sequences' reliables')) f sequence (partialsAt live channels' sequences' reliables') channels' sequences' reliables'
+
+-- columns after a table was put first in them, and how many of their places then count
+pub record LaidSequences (t : Table ℕ) (channels' numbers' : List ℕ) (live : ℕ) (channels'' numbers'' : List ℕ) : Type 0 where
+  pub live-is : live ≡ length t
+  pub channels-are : channels'' ≡ laid (channels t) channels'
+  pub numbers-are : numbers'' ≡ laid (values t) numbers'
+
+pub record LaidPartials (t : Table Partial) (channels' sequences' reliables' : List ℕ) (live : ℕ) (channels'' sequences'' reliables'' : List ℕ) : Type 0 where
+  pub live-is : live ≡ length t
+  pub channels-are : channels'' ≡ laid (channels t) channels'
+  pub sequences-are : sequences'' ≡ laid (channels (values t)) sequences'
+  pub reliables-are : reliables'' ≡ laid (values (values t)) reliables'

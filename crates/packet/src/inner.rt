@@ -3,4 +3,5 @@ pub mod bunch;
 pub mod header;
 pub mod partials;
 pub mod read;
+pub mod retire;
 pub mod sequences;
