@@ -4,3 +4,5 @@ pub mod Soundness
 pub mod Turning
 pub mod Tracking
 pub mod Retiring
+pub mod Within
+pub mod Reading

@@ -8,8 +8,6 @@ use lib.ListN.{length, getD}
 use mir.Val.{boolByte}
 use Rattle.bitio.specs.declared.Window.{Window}
 use Rattle.bitio.specs.Floats.{signed}
-use Rattle.bitio.specs.Parse.{advanced}
-use Rattle.bitio.specs.Windows.{front}
 use Rattle.tables.specs.Tables.{Table, without}
 use Rattle.types.specs.declared.RawBunchHeader.{RawBunchHeader}
 use Rattle.types.specs.declared.PartialSequenceKind.{PartialSequenceKind}
@@ -49,12 +47,16 @@ lastByte d = getD d (length d - 1) 0
 unfoldable pub dataBits : List ℕ → ℕ
 dataBits d = cond (eqb (lastByte d) 0) 0 (8 * length d - 1 - leadingZeros 8 (lastByte d))
 
--- "after the end or malformed it stands at the data's end"
-abbrev pub ended : List ℕ → Channels → Read
-ended d t = record { outcome = end; next = dataBits d; bunches = 0; malformedPackets = 0; partialErrors = 0; channelLimits = 0; held = t; channels = t }
+-- the data from bit `at` on
+abbrev pub rest : ℕ → ℕ → Window
+rest bits at = record { start = record { 0 = 0 }; position = record { 0 = at }; length = bits }
 
-abbrev pub broken : List ℕ → Bool → Channels → Read
-broken d limited t = record { outcome = malformed; next = dataBits d; bunches = 0; malformedPackets = 1; partialErrors = 0; channelLimits = boolByte limited; held = t; channels = t }
+-- "after the end or malformed it stands at the data's end"
+abbrev pub ended : ℕ → Channels → Read
+ended bits t = record { outcome = end; next = bits; bunches = 0; malformedPackets = 0; partialErrors = 0; channelLimits = 0; held = t; channels = t }
+
+abbrev pub broken : ℕ → Bool → Channels → Read
+broken bits limited t = record { outcome = malformed; next = bits; bunches = 0; malformedPackets = 1; partialErrors = 0; channelLimits = boolByte limited; held = t; channels = t }
 
 abbrev pub header : BunchFields → ℕ → ℕ → ℕ → Bool → Bool → Bool → RawBunchHeader
 header f id at sequence limited error completed =
@@ -113,19 +115,19 @@ whole f id at n k t =
 
 -- "The sequence is stored and the limit count raised before the payload is compared with what remains; an overrun makes the
 -- packet malformed and undoes neither."
-abbrev pub compared : List ℕ → BunchFields → ℕ → ℕ → ℕ → Numbered → Table Partial → Read
-compared d f id at limit n t =
-    cond (ltb (dataBits d - at) (f .«payload_bit_count»)) (broken d (n .limited) (record { sequences = n .table; partials = t }))
+abbrev pub compared : ℕ → BunchFields → ℕ → ℕ → ℕ → Numbered → Table Partial → Read
+compared bits f id at limit n t =
+    cond (ltb (bits - at) (f .«payload_bit_count»)) (broken bits (n .limited) (record { sequences = n .table; partials = t }))
     (whole f id at n (tracking limit f (n .sequence) (n .limited) t) t)
 
-abbrev pub headed : List ℕ → ℕ → ℕ → Header → Channels → Read
-headed d id limit unreadable t = broken d false t
-headed d id limit (readable f at) t = compared d f id at limit (numbered limit id f (t .sequences)) (t .partials)
+abbrev pub headed : ℕ → ℕ → ℕ → Header → Channels → Read
+headed bits id limit unreadable t = broken bits false t
+headed bits id limit (readable f at) t = compared bits f id at limit (numbered limit id f (t .sequences)) (t .partials)
 
 -- "Empty: no bunches, not malformed. Last byte 0: malformed." "Until data ends", a header
 unfoldable pub nextBunch : ℕ → List ℕ → ℕ → ℕ → Channels → Read
 nextBunch limit d id at t =
-    cond (eqb (length d) 0) (ended d t)
-    (cond (eqb (lastByte d) 0) (broken d false t)
-    (cond (leb (dataBits d) at) (ended d t)
-    (headed d id limit (headerOf (fields d (advanced (front (dataBits d)) at))) t)))
+    cond (eqb (length d) 0) (ended 0 t)
+    (cond (eqb (lastByte d) 0) (broken 0 false t)
+    (cond (leb (dataBits d) at) (ended (dataBits d) t)
+    (headed (dataBits d) id limit (headerOf (fields d (rest (dataBits d) at))) t)))

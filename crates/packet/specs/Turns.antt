@@ -1,7 +1,6 @@
 -- The steps of a reading call: what the contracts of `inner` name. A reader of the public calls can pass over it.
 use Prim.Native.Nat.{ℕ, _+_}
 use mathlib.Core.Bool.{Bool}
-use mathlib.Core.List.{List}
 use mir.Val.{boolByte}
 use Rattle.bitio.specs.Parse.{value}
 use Rattle.packet.specs.declared.BunchFields.{BunchFields}
@@ -48,7 +47,7 @@ settles limit s p f id at sequence limited m =
     reply (whole f id at (record { sequence = sequence; limited = limited; table = t .sequences }) (tracking limit f sequence limited (t .partials)) (t .partials)) m
 
 -- from the header on
-unfoldable pub finishes : ℕ → ℕ → ℕ → List ℕ → BunchFields → ℕ → ℕ → Memory → Reply
-finishes limit s p d f id at m =
+unfoldable pub finishes : ℕ → ℕ → ℕ → ℕ → BunchFields → ℕ → ℕ → Memory → Reply
+finishes limit s p end f id at m =
     let t = channelsOf s p m in
-    reply (compared d f id at limit (numbered limit id f (t .sequences)) (t .partials)) m
+    reply (compared end f id at limit (numbered limit id f (t .sequences)) (t .partials)) m
