@@ -6,3 +6,4 @@ pub mod Tracking
 pub mod Retiring
 pub mod Within
 pub mod Reading
+pub mod Effects

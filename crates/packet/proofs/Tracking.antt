@@ -13,7 +13,14 @@ use Rattle.tables.proofs.Join.{at-get, free-get, free-without, at-live, free-li
 use Rattle.tables.proofs.Held.{Holds, holds, at-put-holds, at-without-holds, free-put-holds}
 use Rattle.packet.specs.Partials.{Partial}
 use Rattle.packet.specs.Memory.{partialsAt}
-use Rattle.packet.specs.Fits.{Live}
+use Rattle.packet.specs.Fits.{Fits, Live}
+
+pub lives : {limit live : ℕ} {ch : List ℕ} → Fits limit live ch → Live live ch
+lives h =
+    record { few = omega (arith, h .live-fits, h .few); room = omega (arith, h .live-fits, h .room); ascends = h .ascends }
+
+pub roomy : {limit live n : ℕ} {ch : List ℕ} → Fits limit live ch → limit ≤ n → live ≤ n
+roomy h r = omega (arith, h .live-fits, r)
 
 -- a table of the tracker and its three columns
 pub record Bears (t : Table Partial) (cs ss rs : List ℕ) (n : ℕ) : Type 0 where
@@ -57,8 +64,12 @@ module _ {live : ℕ} (c i : ℕ) (ch se re : List ℕ) (fits : Live live ch) (s
   same-bears = bears (take live se) (take live re) (holds (take live ch) vs long tall) refl alike
 
   module _ (slot : slotOf c (take live ch) ≡ Slot.At i) where
-    inside : i < live
+    pub inside : i < live
     inside = at-live c i live ch (fits .room) slot
+
+    -- the place is one of each column
+    pub indexed : (i < 4096) × (i < length se) × (i < length re)
+    indexed = (omega (arith, inside, fits .few), omega (arith, inside, size), omega (arith, inside, size'))
 
     pub there : get c t ≡ found (getD se i 0, getD re i 0)
     there =

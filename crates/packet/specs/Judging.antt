@@ -1,4 +1,8 @@
 -- What the code's enums of the partial tracker mean. What the contracts of `inner` name; a reader of the public calls can pass over it.
+use Prim.Native.Nat.{ℕ, _<_}
+use mathlib.Core.Path.{_≡_}
+use mathlib.Core.List.{List}
+use lib.ListN.{length}
 use Rattle.tables.specs.Tables.{Found, none, found}
 use Rattle.packet.specs.declared.inner.partials.Held.{Held}
 use Rattle.packet.specs.declared.inner.partials.Effect as I
@@ -16,3 +20,7 @@ effectOf I.Effect.Removed = removed
 
 abbrev pub verdictOf : Verdict → Tracked
 verdictOf v = tracked (effectOf (v .effect)) (v .error) (v .completed)
+
+-- what is put has a place in each column
+pub record Roomy (v : Verdict) (live : ℕ) (channels sequences reliables : List ℕ) : Type 0 where
+  pub roomy : v .effect ≡ I.Effect.Puts → (live < length channels) × (live < length sequences) × (live < length reliables)

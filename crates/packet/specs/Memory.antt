@@ -8,7 +8,7 @@ use lib.ListN.{length, take}
 use Rattle.tables.specs.Columns.{laid, beside, ascending}
 use Rattle.tables.specs.Tables.{Table, channels, values, entries}
 use Rattle.types.specs.Types.{mostChannels}
-use Rattle.packet.specs.Partials.{Partial, Tracked, effected, inFlight, tracking}
+use Rattle.packet.specs.Partials.{Partial, Tracked, effected, inFlight, fragment, tracking}
 use Rattle.packet.specs.declared.BunchFields.{BunchFields}
 use Rattle.packet.specs.Packet.{Channels}
 use Rattle.packet.specs.Sequences.{Numbered}
@@ -109,6 +109,11 @@ partialsLaid k t channels' sequences' reliables' =
 -- a table with a judgement's effect on it
 abbrev pub effectedIn : Tracked → BunchFields → ℕ → Table Partial → List ℕ → List ℕ → List ℕ → TrackedIn
 effectedIn k f sequence t channels' sequences' reliables' = partialsLaid k (effected (k .effect) (f .«ch_index») (inFlight f sequence) t) channels' sequences' reliables'
+
+-- a fragment that is tracked
+abbrev pub fragmentTo : ℕ → ℕ → BunchFields → ℕ → List ℕ → List ℕ → List ℕ → TrackedIn
+fragmentTo limit live f sequence channels' sequences' reliables' =
+    effectedIn (fragment limit f sequence (partialsAt live channels' sequences' reliables')) f sequence (partialsAt live channels' sequences' reliables') channels' sequences' reliables'
 
 abbrev pub tracksTo : ℕ → ℕ → BunchFields → ℕ → Bool → List ℕ → List ℕ → List ℕ → TrackedIn
 tracksTo limit live f sequence limited channels' sequences' reliables' =

@@ -74,7 +74,10 @@ effected stays c p t = t
 effected puts c p t = put c p t
 effected removed c p t = without c t
 
+abbrev pub fragment : ℕ → BunchFields → ℕ → Table Partial → Tracked
+fragment limit f sequence t = judged f sequence (leb limit (length t)) (get (f .«ch_index») t)
+
 -- "Tracking follows track_partial_bunch, skipped under the limit flag."
 unfoldable pub tracking : ℕ → BunchFields → ℕ → Bool → Table Partial → Tracked
 tracking limit f sequence limited t =
-    cond (f .«b_partial» && not limited) (judged f sequence (leb limit (length t)) (get (f .«ch_index») t)) (tracked stays false false)
+    cond (f .«b_partial» && not limited) (fragment limit f sequence t) (tracked stays false false)

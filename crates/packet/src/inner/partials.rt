@@ -1,11 +1,19 @@
 // The partial tracker: the Rust's `track_partial_bunch` and `validate_continuation`.
 ghost use mathlib.Core.Path.{_≡_};
 ghost use Prim.Native.Nat.{_≤_, _<_};
-ghost use lib.ListN.{length};
+ghost use lib.Dec.{leb};
+ghost use lib.ListN.{length, take};
+ghost use Rattle.tables.specs.declared.Slot.{Slot};
+ghost use Rattle.tables.specs.Tables.{get, slotOf};
 ghost use Rattle.packet.specs.Partials.{agree, continues, initial, continuing, judged};
-ghost use Rattle.packet.specs.Judging.{heldOf, verdictOf};
+ghost use Rattle.packet.specs.Judging.{Roomy, heldOf, verdictOf};
+ghost use Rattle.packet.specs.Memory.{partialsAt, trackedIn, effectedIn, fragmentTo, tracksTo};
+ghost use Rattle.packet.specs.Fits.{Fits, Live};
 use crate::BunchFields;
+use crate::inner::retire::take_out;
 use crate::inner::sequences::following;
+use tables::Slot;
+use tables::inner;
 
 pub struct Tracked {
     pub error: bool,
@@ -135,4 +143,136 @@ pub fn judge(held: Held, f: BunchFields, sequence: u32, full: bool) -> Verdict
         return initial(held, f.b_partial_final, full);
     }
     continuing(held, f.b_partial_final, f.b_reliable, sequence)
+}
+
+// The channel's state stands at place i.
+fn edit_there(
+    channels: &mut [u32],
+    sequences: &mut [u32],
+    reliables: &mut [u32],
+    live: usize,
+    i: usize,
+    f: BunchFields,
+    sequence: u32,
+    v: Verdict,
+) -> Tracked
+    requires { ⌜ Live live (now channels) × (live ≤ length (now sequences)) × (live ≤ length (now reliables)) × (slotOf (f .«ch_index») (take live (now channels)) ≡ Slot.At i) ⌝ }
+    ensures { λ r. ⌜ trackedIn r (now (channels .exit)) (now (sequences .exit)) (now (reliables .exit)) ≡ effectedIn (verdictOf v) f sequence (partialsAt live (now (channels .entry)) (now (sequences .entry)) (now (reliables .entry))) (now (channels .entry)) (now (sequences .entry)) (now (reliables .entry)) ⌝ }
+{
+    let effect = v.effect;
+    match effect {
+        Effect::Stays => Tracked {
+            error: v.error,
+            completed: v.completed,
+            live,
+        },
+        Effect::Puts => {
+            sequences[i] = sequence;
+            reliables[i] = f.b_reliable as u32;
+            Tracked {
+                error: v.error,
+                completed: v.completed,
+                live,
+            }
+        }
+        Effect::Removed => {
+            let left = take_out(channels, sequences, reliables, live, i);
+            Tracked {
+                error: v.error,
+                completed: v.completed,
+                live: left,
+            }
+        }
+    }
+}
+
+// The channel has no state, and would go to place i.
+fn edit_free(
+    channels: &mut [u32],
+    sequences: &mut [u32],
+    reliables: &mut [u32],
+    live: usize,
+    i: usize,
+    f: BunchFields,
+    sequence: u32,
+    v: Verdict,
+) -> Tracked
+    requires { ⌜ Live live (now channels) × (live ≤ length (now sequences)) × (live ≤ length (now reliables)) × (slotOf (f .«ch_index») (take live (now channels)) ≡ Slot.Free i) × Roomy v live (now channels) (now sequences) (now reliables) ⌝ }
+    ensures { λ r. ⌜ trackedIn r (now (channels .exit)) (now (sequences .exit)) (now (reliables .exit)) ≡ effectedIn (verdictOf v) f sequence (partialsAt live (now (channels .entry)) (now (sequences .entry)) (now (reliables .entry))) (now (channels .entry)) (now (sequences .entry)) (now (reliables .entry)) ⌝ }
+{
+    let effect = v.effect;
+    match effect {
+        Effect::Puts => {
+            inner::insert(channels, live, i, f.ch_index);
+            inner::insert(sequences, live, i, sequence);
+            inner::insert(reliables, live, i, f.b_reliable as u32);
+            Tracked {
+                error: v.error,
+                completed: v.completed,
+                live: live + 1,
+            }
+        }
+        Effect::Stays => Tracked {
+            error: v.error,
+            completed: v.completed,
+            live,
+        },
+        Effect::Removed => Tracked {
+            error: v.error,
+            completed: v.completed,
+            live,
+        },
+    }
+}
+
+fn track_fragment(
+    channels: &mut [u32],
+    sequences: &mut [u32],
+    reliables: &mut [u32],
+    live: usize,
+    limit: usize,
+    f: BunchFields,
+    sequence: u32,
+) -> Tracked
+    requires { ⌜ Fits limit live (now channels) × (limit ≤ length (now sequences)) × (limit ≤ length (now reliables)) ⌝ }
+    ensures { λ r. ⌜ trackedIn r (now (channels .exit)) (now (sequences .exit)) (now (reliables .exit)) ≡ fragmentTo limit live f sequence (now (channels .entry)) (now (sequences .entry)) (now (reliables .entry)) ⌝ }
+{
+    match inner::find(channels, live, f.ch_index) {
+        Slot::At(i) => {
+            let held = Held::InFlight {
+                sequence: sequences[i],
+                reliable: reliables[i],
+            };
+            let v = judge(held, f, sequence, limit <= live);
+            edit_there(channels, sequences, reliables, live, i, f, sequence, v)
+        }
+        Slot::Free(i) => {
+            let v = judge(Held::Nothing, f, sequence, limit <= live);
+            edit_free(channels, sequences, reliables, live, i, f, sequence, v)
+        }
+    }
+}
+
+// A bunch that is no fragment, or that the limit refused, is not tracked.
+pub fn track(
+    channels: &mut [u32],
+    sequences: &mut [u32],
+    reliables: &mut [u32],
+    live: usize,
+    limit: usize,
+    f: BunchFields,
+    sequence: u32,
+    limited: bool,
+) -> Tracked
+    requires { ⌜ Fits limit live (now channels) × (limit ≤ length (now sequences)) × (limit ≤ length (now reliables)) ⌝ }
+    ensures { λ r. ⌜ trackedIn r (now (channels .exit)) (now (sequences .exit)) (now (reliables .exit)) ≡ tracksTo limit live f sequence limited (now (channels .entry)) (now (sequences .entry)) (now (reliables .entry)) ⌝ }
+{
+    if f.b_partial & !limited {
+        return track_fragment(channels, sequences, reliables, live, limit, f, sequence);
+    }
+    Tracked {
+        error: false,
+        completed: false,
+        live,
+    }
 }
