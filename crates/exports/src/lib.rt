@@ -1,5 +1,7 @@
-// The library's calls for C and Rust: numbers and slices in, each answer as seven words (specs/Words.antt).
+// The library's calls for C and Rust: numbers and slices in, each answer as seven words (specs/Words.antt), a walk's as eight
+// (specs/Walks.antt).
 pub mod copies;
 pub mod reads;
+pub mod walks;
 pub mod windows;
 mod words;

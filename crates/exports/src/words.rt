@@ -1,9 +1,12 @@
 // Answers as words.
 ghost use mathlib.Core.Path.{_≡_};
-ghost use mathlib.Core.List.{[], _∷_};
+ghost use mathlib.Core.List.{[], _∷_, _++_};
+ghost use lib.ListN.{length};
 ghost use Rattle.bitio.specs.Refusals.{paper};
 ghost use Rattle.bitio.specs.Answers.{ofDone, ofBit, ofU8, ofU16, ofU32, ofI32, ofU64, ofF32, ofF64, ofSub, ofOpened, ofCount};
 ghost use Rattle.exports.specs.Words.{windowAt, seven, refusalWords, words, openedWords, countWords, none, one, flag, signedWord, window, pattern, float};
+ghost use Rattle.field.specs.Answers.{fieldPaper, stopAnswer};
+ghost use Rattle.exports.specs.Walks.{stop};
 use bitio::Bit;
 use bitio::BitError;
 use bitio::BitRead;
@@ -29,8 +32,13 @@ use bitio::U64Read;
 use bitio::Window;
 use bitio::WindowBit;
 use bitio::inner::signed;
+use field::FieldError;
+use field::Stop;
+use field::Walk;
 
 pub type Words = [u64; 7];
+
+pub type WalkWords = [u64; 8];
 
 pub fn window_at(start: u64, position: u64, length: u64) -> Window
     ensures { λ r. ⌜ r ≡ windowAt start position length ⌝ }
@@ -236,4 +244,51 @@ pub fn of_count(w: Window, r: U64) -> Words
         U64::Value(n) => seven(0, n, 0, 0, w),
         U64::Refused(e) => refused(e, w),
     }
+}
+
+fn refused_walk(e: FieldError, w: Window) -> Words
+    ensures { λ r. ⌜ r ≡ refusalWords (fieldPaper e) w ⌝ }
+{
+    match e {
+        FieldError::Bits(e) => refused(e, w),
+        FieldError::RecordListFull { position } => {
+            let at = position.at;
+            seven(14, at.0, 0, 0, w)
+        }
+        FieldError::UnresolvedFunctionCount => seven(15, 0, 0, 0, w),
+    }
+}
+
+fn of_stop(s: Stop, w: Window) -> Words
+    ensures { λ x. ⌜ x ≡ words stop (stopAnswer s w) ⌝ }
+{
+    match s {
+        Stop::Ended => seven(0, 0, 0, 0, w),
+        Stop::ClassNetCacheTail(n) => seven(0, 1, n, 0, w),
+        Stop::Abandoned(n) => seven(0, 2, n, 0, w),
+        Stop::Refused(e) => refused_walk(e, w),
+    }
+}
+
+fn with_count(words: Words, count: u64) -> WalkWords
+    requires { ⌜ length words ≡ 7 ⌝ }
+    ensures { λ r. ⌜ r ≡ words ++ (count ∷ []) ⌝ }
+{
+    [
+        words[0],
+        words[1],
+        words[2],
+        words[3],
+        words[4],
+        words[5],
+        words[6],
+        count,
+    ]
+}
+
+pub fn of_walk(r: Walk) -> WalkWords
+    ensures { λ x. ⌜ x ≡ words stop (stopAnswer (r .stop) (r .next)) ++ (r .count ∷ []) ⌝ }
+{
+    let stop = r.stop;
+    with_count(of_stop(stop, r.next), r.count)
 }

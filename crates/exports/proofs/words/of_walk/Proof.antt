@@ -1,0 +1,18 @@
+-- The seven words of the stop, and the count.
+use mathlib.Core.Path.{ap, _∙_}
+use lib.ListN.{length}
+use borrow.Author.Needs.{needs}
+use Rattle.field.specs.Answers.{stopAnswer}
+use Rattle.exports.specs.Walks.{stop}
+use Rattle.exports.proofs.Told.{seven-words}
+use Rattle.exports.proofs.words.of_walk.Statement.{statement}
+use Rattle.exports.proofs.words.of_walk.Tie as tie
+
+with-count-requires : tie.Need-with-count-requires
+with-count-requires c κs = rw (c .of-stop .ensures) (seven-words stop _)
+
+returns : tie.Need-returns
+returns c = cc
+
+pub of-walk-spec : {M : Type 1} → statement M
+of-walk-spec = tie.close (tie.spec (λ c κs. search needs) with-count-requires returns)

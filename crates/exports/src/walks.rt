@@ -1,0 +1,71 @@
+// The record walks. Each writes a place of four numbers for each record, and the eight words of its answer.
+ghost use mathlib.Core.Path.{_≡_};
+ghost use mathlib.Core.Bool.{true, false};
+ghost use Rattle.field.specs.Walks.{parseRepLayout, parseClassNetCache};
+ghost use Rattle.exports.specs.Words.{windowAt};
+ghost use Rattle.exports.specs.Walks.{walkWords};
+use crate::words;
+use crate::words::WalkWords;
+use field::Record;
+use field::walks;
+
+#[no_mangle]
+pub extern "C" fn gritwheel_parse_rep_layout(
+    bytes: &[u8],
+    start: u64,
+    position: u64,
+    length: u64,
+    records: &mut [Record],
+    out: &mut WalkWords,
+)
+    ensures answers { λ r. ⌜ now (out .exit) ≡ walkWords (parseRepLayout false (now (bytes .entry)) (now (records .entry)) (windowAt start position length)) ⌝ }
+    ensures leaves { λ r. ⌜ now (records .exit) ≡ parseRepLayout false (now (bytes .entry)) (now (records .entry)) (windowAt start position length) .places ⌝ }
+{
+    let walk = walks::parse_rep_layout(bytes, words::window_at(start, position, length), records);
+    let answer = words::of_walk(walk);
+    *out = answer;
+}
+
+#[no_mangle]
+pub extern "C" fn gritwheel_parse_rep_layout_content_block(
+    bytes: &[u8],
+    start: u64,
+    position: u64,
+    length: u64,
+    records: &mut [Record],
+    out: &mut WalkWords,
+)
+    ensures answers { λ r. ⌜ now (out .exit) ≡ walkWords (parseRepLayout true (now (bytes .entry)) (now (records .entry)) (windowAt start position length)) ⌝ }
+    ensures leaves { λ r. ⌜ now (records .exit) ≡ parseRepLayout true (now (bytes .entry)) (now (records .entry)) (windowAt start position length) .places ⌝ }
+{
+    let walk = walks::parse_rep_layout_content_block(
+        bytes,
+        words::window_at(start, position, length),
+        records,
+    );
+    let answer = words::of_walk(walk);
+    *out = answer;
+}
+
+#[no_mangle]
+pub extern "C" fn gritwheel_parse_class_net_cache(
+    bytes: &[u8],
+    start: u64,
+    position: u64,
+    length: u64,
+    function_count: u32,
+    records: &mut [Record],
+    out: &mut WalkWords,
+)
+    ensures answers { λ r. ⌜ now (out .exit) ≡ walkWords (parseClassNetCache «function_count» (now (bytes .entry)) (now (records .entry)) (windowAt start position length)) ⌝ }
+    ensures leaves { λ r. ⌜ now (records .exit) ≡ parseClassNetCache «function_count» (now (bytes .entry)) (now (records .entry)) (windowAt start position length) .places ⌝ }
+{
+    let walk = walks::parse_class_net_cache(
+        bytes,
+        words::window_at(start, position, length),
+        function_count,
+        records,
+    );
+    let answer = words::of_walk(walk);
+    *out = answer;
+}
