@@ -5,11 +5,14 @@
 
 pub type Out = [u64; 7];
 
+/// A walk's: the seven, then how many records were written.
+pub type WalkOut = [u64; 8];
+
 macro_rules! reads {
-    ($($name:ident($($argument:ident: $kind:ty),*);)*) => {
+    ($out:ty; $($name:ident($($argument:ident: $kind:ty),*);)*) => {
         unsafe extern "C" {
             $(pub fn $name(
-                bytes: *const u8, n: usize, start: u64, position: u64, length: u64, $($argument: $kind,)* out: *mut Out,
+                bytes: *const u8, n: usize, start: u64, position: u64, length: u64, $($argument: $kind,)* out: *mut $out,
             );)*
         }
     };
@@ -26,6 +29,7 @@ unsafe extern "C" {
 }
 
 reads! {
+    Out;
     gritwheel_read_bit();
     gritwheel_read_bits(count: u32);
     gritwheel_read_u8();
@@ -41,4 +45,11 @@ reads! {
     gritwheel_sub_reader(count: u64);
     gritwheel_skip_bits(count: u64);
     gritwheel_skip_remaining();
+}
+
+reads! {
+    WalkOut;
+    gritwheel_parse_rep_layout(records: *mut [u64; 4], k: usize);
+    gritwheel_parse_rep_layout_content_block(records: *mut [u64; 4], k: usize);
+    gritwheel_parse_class_net_cache(function_count: u32, records: *mut [u64; 4], k: usize);
 }

@@ -35,6 +35,7 @@ pub enum Call {
     SkipRemaining,
 }
 
+use crate::window::Window;
 use Call::*;
 
 pub const CALLS: [(Call, &str); 21] = [
@@ -80,9 +81,6 @@ impl Call {
         self == CopyBitsTo
     }
 }
-
-/// Start, position, length.
-pub type Window = [u64; 3];
 
 #[derive(Clone)]
 pub struct Case {

@@ -146,11 +146,13 @@ impl Drop for Watched {
 }
 
 unsafe extern "C" {
-    fn signal(number: i32, handler: extern "C" fn(i32)) -> usize;
+    fn signal(number: i32, handler: usize) -> usize;
     fn _exit(status: i32) -> !;
 }
 
 extern "C" fn crashed(number: i32) {
+    // Printing can fail too; the second time the process dies as it would have.
+    unsafe { signal(number, 0) };
     let (case, print) = UNDER_WAY.get();
     print(case);
     println!("signal {number}");
@@ -166,6 +168,6 @@ pub fn watch_for_crashes() {
         }
     }));
     for number in [4, 6, 7, 8, 11] {
-        unsafe { signal(number, crashed) };
+        unsafe { signal(number, crashed as extern "C" fn(i32) as usize) };
     }
 }

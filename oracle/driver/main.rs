@@ -10,7 +10,13 @@ mod abi;
 mod bitio;
 #[cfg(ours)]
 mod compare;
+mod field;
+#[cfg(ours)]
+mod lent;
 mod random;
+mod shrink;
+mod text;
+mod window;
 
 struct Given {
     long: bool,
@@ -40,6 +46,7 @@ fn given() -> Option<Given> {
 fn run(given: &Given) {
     compare::watch_for_crashes();
     bitio::inputs::Inputs::new(given.seed, given.share, given.long).run();
+    field::inputs::Inputs::new(given.seed, given.share, given.long).run();
 }
 
 #[cfg(not(ours))]

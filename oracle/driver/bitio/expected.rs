@@ -1,43 +1,16 @@
 // The expected answers: the Rust's on its domain, and document 01's refusals 5, 6 and 7 where the Rust isn't asked.
 
 use super::Call::*;
-use super::{Answer, Call, Case, NO_FLOAT, Window};
-use vrf_bitio::{BitError, BitReader};
+use super::{Answer, Call, Case, NO_FLOAT};
+use crate::window::{Window, Words, refusal, too_long, unsound};
+use vrf_bitio::BitReader;
 
-/// Word 0 to 3 of an answer.
-type Words = [u64; 4];
-
-const MOST_BYTES: u64 = 67_108_864;
-
-/// "In a read, copy or walk 7 comes first, then 5, 6, 4, 15, then 1. A window past its data is 5, with its length and
-/// the data bits from its start (0 if none); next a cursor past its window, 5 with its place and the window's length".
-/// The short copy target, 4 and 1 to 3 are the Rust's own.
-fn refused_before_the_rust(call: Call, n: u64, [start, position, length]: Window, argument: u64) -> Option<Words> {
-    if n > MOST_BYTES {
-        return Some([7, n, 0, 0]);
-    }
+/// "then 5, 6": a width. The short copy target, 4 and 1 to 3 are the Rust's own.
+fn refused_before_the_rust(call: Call, n: u64, window: Window, argument: u64) -> Option<Words> {
     if !call.takes_window() {
-        return None;
+        return too_long(n);
     }
-    let available = (8 * n).saturating_sub(start);
-    if length > available {
-        return Some([5, length, available, 0]);
-    }
-    if position > length {
-        return Some([5, position, length, 0]);
-    }
-    (call == ReadBits && argument > 64).then_some([6, argument, 0, 0])
-}
-
-fn refusal(error: &BitError) -> Words {
-    match *error {
-        BitError::Eof { position, length, requested } => [1, position, length, requested],
-        BitError::MalformedIntPacked { position } => [2, position, 0, 0],
-        BitError::IntPackedOverflow { position } => [3, position, 0, 0],
-        BitError::InvalidSerializedIntMax { max } => [4, u64::from(max), 0, 0],
-        BitError::InvalidBitLength { requested, available } => [5, requested, available, 0],
-        BitError::InvalidLength { .. } | BitError::InvalidString { .. } => unreachable!("only strings give these"),
-    }
+    unsound(n, window).or((call == ReadBits && argument > 64).then_some([6, argument, 0, 0]))
 }
 
 fn value(number: u64) -> Words {

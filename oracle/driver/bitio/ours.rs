@@ -5,13 +5,10 @@ use super::expected::expected;
 use super::{Answer, CALLS, Case, NO_FLOAT, shown};
 use crate::abi::*;
 use crate::compare;
+use crate::lent::{PATTERN, UNWRITTEN, changed, lent};
 
-/// Bytes before and after a lent target, to see writes past it; and what stands in them.
+/// Bytes before and after a lent target, to see writes past it.
 const GUARD: usize = 8;
-const PATTERN: u8 = 0xa5;
-
-/// Longer data is lent without a copy; who makes such an input looks at the data afterwards.
-pub const LONGEST_COPIED: usize = 1 << 20;
 
 fn once(case: &Case, data: &[u8], target: &mut [u8], beside: &mut u64, out: &mut Out) {
     let (bytes, n) = (data.as_ptr(), data.len());
@@ -88,22 +85,14 @@ impl compare::Case for Case {
         answer.beside = NO_FLOAT;
         answer.bytes.clear();
         answer.damage = None;
-        let mut data = self.data.as_slice();
-        if data.len() <= LONGEST_COPIED {
-            room.clear();
-            room.extend_from_slice(data);
-            data = room;
-        }
-        // Each word must be written, so none is what it must become.
-        let mut out = [0xdead_beef_a5a5_a5a5; 7];
+        let data = lent(&self.data, room);
+        let mut out = [UNWRITTEN; 7];
         match self.call {
             CopyBitsTo => copy(self, data, answer, &mut out),
             _ => once(self, data, &mut [], &mut answer.beside, &mut out),
         }
         answer.words = out;
-        if data.len() <= LONGEST_COPIED && data != self.data {
-            answer.damage = Some("the data");
-        }
+        answer.damage = answer.damage.or(changed(data, &self.data));
     }
 
     fn call(&self) -> usize {

@@ -5,8 +5,9 @@
 
 use super::Call::*;
 use super::expected::expected;
-use super::{Answer, Call, Case, NO_FLOAT, Window};
+use super::{Answer, Call, Case, NO_FLOAT};
 use crate::random::Random;
+use crate::window::Window;
 use std::collections::HashSet;
 use std::io::Write;
 

@@ -1,9 +1,10 @@
 // The longest data that is accepted, and one byte more.
 
-use super::super::ours::LONGEST_COPIED;
 use super::Inputs;
+use crate::lent::LONGEST_COPIED;
+use crate::window;
 
-const MOST_BYTES: usize = 67_108_864;
+const MOST_BYTES: usize = window::MOST_BYTES as usize;
 
 impl Inputs {
     /// One byte above the longest data, and the longest data itself read at its end.

@@ -1,8 +1,8 @@
 // Short data in full: every data, every window, every argument up to a bound, as far as the time allows.
 
 use super::super::Call::*;
-use super::super::Window;
 use super::Inputs;
+use crate::window::Window;
 
 /// All starts and lengths up to a number of bits, with positions to one past the length.
 fn windows_of(bits: u64) -> Vec<Window> {
