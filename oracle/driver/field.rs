@@ -5,6 +5,8 @@ pub mod expected;
 pub mod inputs;
 #[cfg(ours)]
 mod ours;
+#[cfg(not(ours))]
+pub mod records;
 #[cfg(ours)]
 mod shown;
 mod streams;

@@ -13,6 +13,8 @@ mod compare;
 mod field;
 #[cfg(ours)]
 mod lent;
+#[cfg(not(ours))]
+mod line;
 mod random;
 mod shrink;
 mod text;
@@ -52,6 +54,7 @@ fn run(given: &Given) {
 #[cfg(not(ours))]
 fn run(given: &Given) {
     bitio::records::print(given.record);
+    field::records::print(given.record * 2 / 5);
 }
 
 fn main() {

@@ -1,4 +1,5 @@
 // Our calls by their numbers in the list.
+use crate::walks;
 use exports::copies;
 use exports::reads;
 use exports::windows;
@@ -31,6 +32,7 @@ pub(crate) fn run(call: u8, data: &[u8], given: Given, target: &mut [u8], answer
             given.argument,
             answer,
         ),
+        22..=24 => walks::run(call, data, given, target, answer),
         _ => (),
     }
 }

@@ -6,6 +6,7 @@ mod calls;
 mod hex;
 mod record;
 mod report;
+mod walks;
 
 // Whether nothing is left to read. It is not so where the list is too long for the array or where a read failed.
 fn at_end() -> bool {

@@ -38,7 +38,7 @@ fn quad(list: &[u8], at: usize) -> usize
     65536 * pair(list, at) + pair(list, at + 2)
 }
 
-fn word(list: &[u8], at: usize) -> u64
+pub(crate) fn word(list: &[u8], at: usize) -> u64
     requires { ⌜ at + 6 < 2 ^ 32 ⌝ }
 {
     4294967296 * (quad(list, at) as u64) + (quad(list, at + 4) as u64)

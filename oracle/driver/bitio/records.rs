@@ -1,11 +1,9 @@
-// A fixed list of the Rust's answers, one record a line, for tests that need no Rust at hand.
-//
-// Fields, in lowercase hex with one space between: call, n, data, start, position, length, argument, m, target before,
-// seven words, target after. Data and targets of 0 bytes are a dash. A float that is a number has its bits in word 2.
+// A fixed list of the Rust's answers, one record a line (line.rs). A float that is a number has its bits in word 2.
 
 use super::Call::*;
 use super::expected::expected;
 use super::{Answer, Call, Case, NO_FLOAT};
+use crate::line::Line;
 use crate::random::Random;
 use crate::window::Window;
 use std::collections::HashSet;
@@ -216,23 +214,15 @@ fn random_case(call: Call, random: &mut Random) -> Case {
     with_target(Case::new(call, &data, [start, position, length], argument), m)
 }
 
-fn hex(bytes: &[u8]) -> String {
-    if bytes.is_empty() { "-".into() } else { bytes.iter().map(|byte| format!("{byte:02x}")).collect() }
-}
-
 fn record(case: &Case, answer: &mut Answer) -> String {
     expected(case, answer);
     let mut words = answer.words;
     if answer.beside != NO_FLOAT {
         words[2] = answer.beside;
     }
-    let [start, position, length] = case.window;
-    let mut fields = vec![format!("{:02x} {:04x} {}", case.call as u8, case.data.len(), hex(&case.data))];
-    fields.extend([start, position, length, case.argument].map(|number| format!("{number:016x}")));
-    fields.push(format!("{:02x} {}", case.target.len(), hex(&case.target)));
-    fields.extend(words.map(|number| format!("{number:016x}")));
-    fields.push(hex(&answer.bytes));
-    fields.join(" ")
+    let Case { call, data, window, argument, target } = case;
+    let line = Line { call: *call as u8, data, window: *window, argument: *argument, before: target, words, after: &answer.bytes };
+    line.text()
 }
 
 /// Prints about `wanted` records, always the same ones.
