@@ -2,11 +2,14 @@
 //
 // Both sides read the same input, and must agree before they are timed.
 
-// The driver uses the rest of these two.
+// The driver uses the rest of these.
 #[cfg(singles)]
 #[allow(dead_code)]
 #[path = "../oracle/driver/abi.rs"]
 mod abi;
+#[cfg(singles)]
+#[path = "../oracle/driver/bits.rs"]
+mod bits;
 mod inputs;
 mod loops;
 #[allow(dead_code)]
@@ -15,6 +18,8 @@ mod random;
 #[cfg(singles)]
 mod singles;
 mod timing;
+#[cfg(singles)]
+mod walks;
 
 use timing::Timing;
 
@@ -39,5 +44,8 @@ fn main() {
     timing.title();
     loops::run(&timing);
     #[cfg(singles)]
-    singles::run(&timing);
+    {
+        singles::run(&timing);
+        walks::run(&timing);
+    }
 }

@@ -8,6 +8,7 @@
 #[cfg(ours)]
 mod abi;
 mod bitio;
+mod bits;
 #[cfg(ours)]
 mod compare;
 mod field;
