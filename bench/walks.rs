@@ -119,7 +119,7 @@ fn case(timing: &Timing, name: &str, stream: &Stream) {
 pub fn run(timing: &Timing) {
     case(timing, "parse_rep_layout, a record", &stream(None, false));
     case(timing, "parse_rep_layout_content_block, a record", &stream(None, true));
-    for count in [1, 60, 1000] {
+    for count in [1, 48, 60, 1000] {
         case(timing, &format!("parse_class_net_cache, a record, {count}"), &stream(Some(count), false));
     }
 }
