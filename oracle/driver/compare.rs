@@ -12,6 +12,9 @@ pub trait Case: Clone {
     /// `room` is memory kept from call to call, for what ours is lent.
     fn ours(&self, answer: &mut Self::Answer, room: &mut Vec<u8>);
     fn call(&self) -> usize;
+    /// Which of the ways to answer this is: below OUTCOMES, and what it is called.
+    fn outcome(answer: &Self::Answer) -> usize;
+    fn outcome_name(outcome: usize) -> String;
     /// Simpler inputs to try, the simplest first. Each must be smaller by some measure, so that shrinking ends.
     fn simpler(&self) -> Vec<Self>;
     /// Lines, each ended.
@@ -19,6 +22,8 @@ pub trait Case: Clone {
     fn answer_in_words(&self, answer: &Self::Answer) -> String;
     fn name(call: usize) -> &'static str;
 }
+
+pub const OUTCOMES: usize = 32;
 
 pub struct Comparing<C: Case> {
     expected: C::Answer,
@@ -28,7 +33,8 @@ pub struct Comparing<C: Case> {
     /// One input in `share` is compared, and `turn` counts to the next.
     share: u64,
     turn: u64,
-    counts: Vec<u64>,
+    /// For each call, how often it was compared with each outcome.
+    counts: Vec<[u64; OUTCOMES]>,
     stage: (&'static str, u64, Instant),
 }
 
@@ -58,9 +64,9 @@ impl<C: Case> Comparing<C> {
         }
         let call = case.call();
         if call >= self.counts.len() {
-            self.counts.resize(call + 1, 0);
+            self.counts.resize(call + 1, [0; OUTCOMES]);
         }
-        self.counts[call] += 1;
+        self.counts[call][C::outcome(&self.expected)] += 1;
     }
 
     fn differs(&mut self, case: &C) -> bool {
@@ -104,15 +110,20 @@ impl<C: Case> Comparing<C> {
     }
 
     pub fn total(&self) -> u64 {
-        self.counts.iter().sum()
+        self.counts.as_flattened().iter().sum()
     }
 
     pub fn summary(&mut self) {
         self.stage("");
-        for (call, count) in self.counts.iter().enumerate().filter(|(_, count)| **count > 0) {
-            println!("{:<28}{count:>14}", C::name(call));
+        for (call, counts) in self.counts.iter().enumerate() {
+            let total: u64 = counts.iter().sum();
+            if total > 0 {
+                let met = counts.iter().enumerate().filter(|(_, count)| **count > 0);
+                let outcomes: Vec<_> = met.map(|(outcome, count)| format!("{} {count}", C::outcome_name(outcome))).collect();
+                println!("{:<32}{total:>12}: {}", C::name(call), outcomes.join(", "));
+            }
         }
-        println!("{:<28}{:>14}", "total", self.total());
+        println!("{:<32}{:>12}", "total", self.total());
     }
 }
 

@@ -99,6 +99,14 @@ impl compare::Case for Case {
         self.call as usize
     }
 
+    fn outcome(answer: &Answer) -> usize {
+        answer.words[0] as usize
+    }
+
+    fn outcome_name(outcome: usize) -> String {
+        if outcome == 0 { "value".into() } else { format!("refusal {outcome}") }
+    }
+
     fn simpler(&self) -> Vec<Self> {
         shown::simpler(self)
     }

@@ -54,6 +54,23 @@ impl compare::Case for Case {
         self.call as usize
     }
 
+    /// A refusal's number, or 20 and the stop's case.
+    fn outcome(answer: &Answer) -> usize {
+        match answer.words[0] {
+            0 => 20 + answer.words[1] as usize,
+            number => number as usize,
+        }
+    }
+
+    fn outcome_name(outcome: usize) -> String {
+        match outcome {
+            20 => "ended".into(),
+            21 => "tail".into(),
+            22 => "abandoned".into(),
+            number => format!("refusal {number}"),
+        }
+    }
+
     fn simpler(&self) -> Vec<Self> {
         shown::simpler(self)
     }
