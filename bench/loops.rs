@@ -156,8 +156,12 @@ pub fn run(timing: &Timing) {
     bits_case(timing, "read_bits, loop, widths 1 to 16", inputs::with_arguments(4096, |random| 1 + random.below(16)));
     packed_case(timing, "read_int_packed, loop, mostly 1 or 2 bytes", inputs::packed(4096, inputs::realistic_length));
     packed_case(timing, "read_int_packed, loop, 1 to 5 bytes", inputs::packed(4096, |random| 1 + random.below(5)));
+    // So long that a processor can't learn the branches by heart.
+    packed_case(timing, "read_int_packed, loop, mostly 1 or 2, 65536", inputs::packed(65536, inputs::realistic_length));
     let mixed = inputs::with_arguments(4096, inputs::mixed_maximum);
     serialized_case(timing, "read_serialized_int, loop, mixed maxima", mixed);
+    let long = inputs::with_arguments(65536, inputs::mixed_maximum);
+    serialized_case(timing, "read_serialized_int, loop, mixed, 65536", long);
     serialized_case(timing, "read_serialized_int, loop, 16384", inputs::with_arguments(4096, |_| 16384));
     for size in [16, 64, 256, 1024, 2048] {
         copy_case(timing, size, 0);

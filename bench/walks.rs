@@ -11,7 +11,8 @@ use vrf_net::field::{FieldSink, parse_class_net_cache_content_block, parse_rep_l
 
 type Record = [u64; 4];
 
-const RECORDS: usize = 4096;
+/// A processor can learn the branches of a short stream by heart when it is walked again and again, so longer ones are timed too.
+const SIZES: [usize; 3] = [4096, 16384, 65536];
 
 struct Store<'a> {
     places: &'a mut [Record],
@@ -46,6 +47,7 @@ fn small(random: &mut Random) -> u64 {
 }
 
 struct Stream {
+    records: usize,
     data: Vec<u8>,
     /// From FIRST_BIT on.
     length: u64,
@@ -54,11 +56,11 @@ struct Stream {
     retain: bool,
 }
 
-fn stream(function_count: Option<u32>, retain: bool) -> Stream {
+fn stream(records: usize, function_count: Option<u32>, retain: bool) -> Stream {
     let mut random = Random::new(5);
     let mut bits = Bits::default();
     bits.noise(&mut random, FIRST_BIT + u64::from(function_count.is_none()));
-    for _ in 0..RECORDS {
+    for _ in 0..records {
         match function_count {
             None => bits.packed(small(&mut random), 1),
             Some(count) => bits.serialized(random.below(u64::from(count)), u64::from(count.max(2))),
@@ -70,7 +72,7 @@ fn stream(function_count: Option<u32>, retain: bool) -> Stream {
     if function_count.is_none() {
         bits.packed(0, 1);
     }
-    Stream { data: bits.bytes, length: bits.count - FIRST_BIT, function_count, retain }
+    Stream { records, data: bits.bytes, length: bits.count - FIRST_BIT, function_count, retain }
 }
 
 /// What both sides answer: the count, and where the reader then stands.
@@ -107,19 +109,22 @@ fn ours(stream: &Stream, places: &mut [Record]) -> u64 {
 }
 
 fn case(timing: &Timing, name: &str, stream: &Stream) {
-    let (mut first, mut second) = (vec![[0; 4]; RECORDS], vec![[1; 4]; RECORDS]);
-    let whole = told(RECORDS as u64, stream.length);
+    let name = &format!("{name}, {}", stream.records);
+    let (mut first, mut second) = (vec![[0; 4]; stream.records], vec![[1; 4]; stream.records]);
+    let whole = told(stream.records as u64, stream.length);
     if rust(stream, &mut first) != whole || ours(stream, &mut second) != whole || first != second {
         println!("{name}: the records differ, or a walk doesn't reach the end");
         std::process::exit(1);
     }
-    timing.compare(name, RECORDS, || rust(stream, &mut first), || ours(stream, &mut second));
+    timing.compare(name, stream.records, || rust(stream, &mut first), || ours(stream, &mut second));
 }
 
 pub fn run(timing: &Timing) {
-    case(timing, "parse_rep_layout, a record", &stream(None, false));
-    case(timing, "parse_rep_layout_content_block, a record", &stream(None, true));
-    for count in [1, 48, 60, 1000] {
-        case(timing, &format!("parse_class_net_cache, a record, {count}"), &stream(Some(count), false));
+    for size in SIZES {
+        case(timing, "parse_rep_layout", &stream(size, None, false));
+        case(timing, "parse_rep_layout_content_block", &stream(size, None, true));
+        for count in [1, 48, 60, 1000] {
+            case(timing, &format!("parse_class_net_cache of {count}"), &stream(size, Some(count), false));
+        }
     }
 }
