@@ -110,9 +110,9 @@ impl Inputs {
             if self.random.below(2) == 0 {
                 streams::damage(&mut self.random, &mut self.case.data, &mut self.case.window);
             }
-            // Each record takes at least nine bits.
             self.case.call = call;
             self.case.function_count = count;
+            // Enough for all, since each record takes at least nine bits.
             self.case.places = 1 + self.case.data.len();
             expected(&self.case, &mut answer);
             let found = answer.words[7] as usize;
