@@ -7,3 +7,5 @@ pub mod Retiring
 pub mod Within
 pub mod Reading
 pub mod Effects
+pub mod Kept
+pub mod Finishing

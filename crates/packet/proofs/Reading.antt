@@ -7,7 +7,8 @@ use native.Mathlib.Omega.{arith}
 use lib.ListN.{length, take}
 use lib.Seq.{length-take-le}
 use borrow.Author.Tests.{le-leb, lt-leb, le-ltb, lt-ltb, eq-eqb, ne-eqb}
-use Rattle.tables.specs.Columns.{beside}
+use Rattle.tables.specs.Columns.{laid, beside}
+use Rattle.tables.specs.Tables.{channels, values}
 use Rattle.tables.proofs.Columns.{laid-take, length-beside, beside-first, beside-second}
 use Rattle.tables.proofs.Held.{Holds, holds}
 use Rattle.packet.specs.declared.BunchFields.{BunchFields}
@@ -39,11 +40,24 @@ module _ {limit s p : ℕ} {m : Memory} (state : State limit s p m) where
       holds _ _ (length-take-le p (m .partialChannels) (omega (arith, f .live-fits, f .room)))
       (length-beside (take p (m .partialSequences)) (take p (m .partialReliables)) two ∙ length-take-le p (m .partialSequences) (omega (arith, f .live-fits, state .partial-sequences)))
 
+  -- the tracker's columns with its own table put first
+  pub record SamePartials : Type 0 where
+    pub channels-same : laid (channels (partialsAt p (m .partialChannels) (m .partialSequences) (m .partialReliables))) (m .partialChannels) ≡ m .partialChannels
+    pub sequences-same : laid (channels (values (partialsAt p (m .partialChannels) (m .partialSequences) (m .partialReliables)))) (m .partialSequences) ≡ m .partialSequences
+    pub reliables-same : laid (values (values (partialsAt p (m .partialChannels) (m .partialSequences) (m .partialReliables)))) (m .partialReliables) ≡ m .partialReliables
+
+  pub same-partials : SamePartials
+  same-partials =
+      record {
+        channels-same = rw (partials-held .first) (laid-take p (m .partialChannels));
+        sequences-same = rw (partials-held .second, beside-first (take p (m .partialSequences)) (take p (m .partialReliables)) two) (laid-take p (m .partialSequences));
+        reliables-same = rw (partials-held .second, beside-second (take p (m .partialSequences)) (take p (m .partialReliables)) two) (laid-take p (m .partialReliables));
+      }
+
   pub same : laidIn (channelsOf s p m) m ≡ m
   unfolding laidIn channelsOf
   same =
-      rw (sequences-held .first, sequences-held .second, partials-held .first, partials-held .second, beside-first (take p (m .partialSequences)) (take p (m .partialReliables)) two, beside-second (take p (m .partialSequences)) (take p (m .partialReliables)) two,
-      laid-take s (m .sequenceChannels), laid-take s (m .sequenceNumbers), laid-take p (m .partialChannels), laid-take p (m .partialSequences), laid-take p (m .partialReliables))
+      rw (sequences-held .first, sequences-held .second, laid-take s (m .sequenceChannels), laid-take s (m .sequenceNumbers), same-partials .channels-same, same-partials .sequences-same, same-partials .reliables-same)
 
   sequences-live : length (channelsOf s p m .sequences) ≡ s
   unfolding channelsOf

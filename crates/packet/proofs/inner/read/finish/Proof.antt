@@ -1,83 +1,50 @@
+-- What numbering left is Finishing's; then the overrun, or `settle`.
+use Prim.Native.Nat.{_+_, _≤_}
+use mathlib.Core.Path.{_≡_, _∙_}
+use native.Mathlib.Omega.{arith}
+use Rattle.packet.proofs.Finishing.{numbered-state, overrun, fits}
 use borrow.Author.Needs.{needs}
 use Rattle.packet.proofs.inner.read.finish.Statement.{statement}
 use Rattle.packet.proofs.inner.read.finish.Tie as tie
-use Rattle.packet.proofs.inner.read.finish.Reads as reads
-use Rattle.packet.proofs.inner.read.finish.Lts as lts
-use Rattle.packet.proofs.inner.bunch.number.Reads as number-reads
-use Rattle.packet.proofs.inner.read.malformed.Reads as malformed-reads
-use Rattle.packet.proofs.inner.read.settle.Reads as settle-reads
 
--- src/inner/read.rt:159:9
 number-requires : tie.Need-number-requires
-number-requires c κs = search needs
+number-requires c κs = let p = c .before .before .before .before .before .before .before .pre .0 in (p .sequences, p .numbers)
 
--- src/inner/read.rt:167:8
-sub-if1 : tie.Need-sub-if1
-sub-if1 c = search needs
-
--- src/inner/read.rt:167:25
-cast-if1 : tie.Need-cast-if1
-cast-if1 c = search needs
-
--- src/inner/read.rt:168:9
-malformed-requires : tie.Need-malformed-requires
-malformed-requires c κs = search needs
-
--- src/inner/read.rt:168:9
-same-length : tie.Need-same-length
-same-length c = search needs
-
--- src/inner/read.rt:168:9
-same-length-2 : tie.Need-same-length-2
-same-length-2 c = search needs
-
--- src/inner/read.rt:168:9
 returns : tie.Need-returns
-returns c = ?
+returns c =
+    let a = c .before .before .before .before .before .before .before .before .before .before .before .before .before .before .before .args in
+    let n = c .before .before .before .before .before .before .before .number in
+    c .malformed .ensures _ ∙ overrun (c .before .before .before .before .before .before .before .before .before .before .before .before .before .before .before .pre .0) (a .f) (a .id) (a .position) (a .end) (n .result) _ _ (n .ensures) (c .before .if1 .taken)
 
--- src/inner/read.rt:170:5
 settle-requires : tie.Need-settle-requires
-settle-requires c κs = ?
+settle-requires c κs =
+    let a = c .before .before .before .before .before .before .before .before .before .before .before .before .before .before .before .before .before .before .before .args in
+    let p = c .before .before .before .before .before .before .before .before .before .before .before .before .before .before .before .before .before .before .before .pre in
+    let n = c .before .before .before .before .before .before .before .before .before .before .before .number in
+    let room : a .position + a .f .«payload_bit_count» ≤ 524280 = omega (arith, p .1, p .2, c .before .before .before .before .before .if1 .left) in
+    (numbered-state (p .0) (a .f) (a .id) (a .position) (a .end) (n .result) _ _ (n .ensures), room)
 
--- src/inner/read.rt:144:1
-same-length-3 : tie.Need-same-length-3
-same-length-3 c = search needs
-
--- src/inner/read.rt:144:1
-same-length-4 : tie.Need-same-length-4
-same-length-4 c = search needs
-
--- src/inner/read.rt:144:1
-same-length-5 : tie.Need-same-length-5
-same-length-5 c = search needs
-
--- src/inner/read.rt:144:1
-same-length-6 : tie.Need-same-length-6
-same-length-6 c = search needs
-
--- src/inner/read.rt:144:1
-same-length-7 : tie.Need-same-length-7
-same-length-7 c = search needs
-
--- src/inner/read.rt:144:1
 returns-2 : tie.Need-returns-2
-returns-2 c = ?
+returns-2 c =
+    let a = c .before .before .before .before .before .before .before .before .before .before .before .before .before .before .before .before .before .before .before .before .before .before .before .before .before .before .before .before .before .before .args in
+    let n = c .before .before .before .before .before .before .before .before .before .before .before .before .before .before .before .before .before .before .before .before .before .before .number in
+    c .before .before .before .before .before .before .before .before .before .before .settle .ensures ∙ fits (c .before .before .before .before .before .before .before .before .before .before .before .before .before .before .before .before .before .before .before .before .before .before .before .before .before .before .before .before .before .before .pre .0) (a .f) (a .id) (a .position) (a .end) (n .result) _ _ (n .ensures) (c .before .before .before .before .before .before .before .before .before .before .before .before .before .before .before .before .if1 .left)
 
 pub finish-spec : {M : Type 1} → statement M
 finish-spec =
     tie.close
     (tie.spec
     number-requires
-    sub-if1
-    cast-if1
-    malformed-requires
-    same-length
-    same-length-2
+    (λ c. search needs)
+    (λ c. search needs)
+    (λ c κs. search needs)
+    (λ c. search needs)
+    (λ c. search needs)
     returns
     settle-requires
-    same-length-3
-    same-length-4
-    same-length-5
-    same-length-6
-    same-length-7
+    (λ c. search needs)
+    (λ c. search needs)
+    (λ c. search needs)
+    (λ c. search needs)
+    (λ c. search needs)
     returns-2)

@@ -1,95 +1,64 @@
+-- What the tracker left is Turning's; where the close retires, both retirings follow it.
+use Prim.Native.Nat.{_≤_}
+use mathlib.Core.Path.{_≡_, sym, _∙_}
+use native.Mathlib.Omega.{arith}
+use lib.ListN.{length}
+use Rattle.packet.specs.Memory.{memory}
+use Rattle.packet.specs.Fits.{Fits, Live, State}
+use Rattle.packet.proofs.Tracking.{lives, roomy}
+use Rattle.packet.proofs.Turning.{tracked-fits, tracked-sizes, left-open, closed}
 use borrow.Author.Needs.{needs}
 use Rattle.packet.proofs.inner.read.settle.Statement.{statement}
 use Rattle.packet.proofs.inner.read.settle.Tie as tie
-use Rattle.packet.proofs.inner.read.settle.Reads as reads
-use Rattle.packet.proofs.inner.read.settle.Lts as lts
-use Rattle.packet.proofs.inner.partials.track.Reads as track-reads
-use Rattle.packet.proofs.inner.read.handed_out.Reads as handed-out-reads
-use Rattle.packet.proofs.inner.read.retires.Reads as retires-reads
-use Rattle.packet.proofs.inner.retire.retire_partial.Reads as retire-partial-reads
-use Rattle.packet.proofs.inner.retire.retire_sequence.Reads as retire-sequence-reads
 
--- src/inner/read.rt:119:9
 track-requires : tie.Need-track-requires
-track-requires c κs = search needs
+track-requires c κs = let p = c .before .before .before .before .before .before .before .before .pre .0 in (p .partials, p .partial-sequences, p .partial-reliables)
 
--- src/inner/read.rt:129:8
-retires-requires : tie.Need-retires-requires
-retires-requires c κs = search needs
-
--- src/inner/read.rt:130:13
 retire-sequence-requires : tie.Need-retire-sequence-requires
-retire-sequence-requires c κs = ?
+retire-sequence-requires c κs = let p = c .before .before .before .before .before .before .before .before .before .before .before .before .before .before .before .before .before .before .before .pre .0 in (lives (p .sequences), roomy (p .sequences) (p .numbers))
 
--- src/inner/read.rt:131:13
 retire-partial-requires : tie.Need-retire-partial-requires
-retire-partial-requires c κs = ?
+retire-partial-requires c κs =
+    let a = c .before .before .before .before .before .before .before .before .before .before .before .before .before .before .before .before .before .before .before .before .before .before .before .before .before .before .before .args in
+    let p = c .before .before .before .before .before .before .before .before .before .before .before .before .before .before .before .before .before .before .before .before .before .before .before .before .before .before .before .pre .0 in
+    let k = c .before .before .before .before .before .before .before .before .before .before .before .before .before .before .before .before .before .before .track in
+    let fits = tracked-fits p (a .f) (a .id) (a .position) (a .n .sequence) (a .n .limited) (k .result) _ _ _ (k .ensures) in
+    let sizes = tracked-sizes p (a .f) (a .id) (a .position) (a .n .sequence) (a .n .limited) (k .result) _ _ _ (k .ensures) in
+    (lives fits, roomy fits (rw (sizes .0) (p .partial-sequences)), roomy fits (rw (sizes .1) (p .partial-reliables)))
 
--- src/inner/read.rt:138:9
-handed-out-requires : tie.Need-handed-out-requires
-handed-out-requires c κs = ?
-
--- src/inner/read.rt:138:9
-same-length : tie.Need-same-length
-same-length c = search needs
-
--- src/inner/read.rt:138:9
-same-length-2 : tie.Need-same-length-2
-same-length-2 c = search needs
-
--- src/inner/read.rt:138:9
-same-length-3 : tie.Need-same-length-3
-same-length-3 c = ?
-
--- src/inner/read.rt:138:9
-same-length-4 : tie.Need-same-length-4
-same-length-4 c = search needs
-
--- src/inner/read.rt:138:9
-same-length-5 : tie.Need-same-length-5
-same-length-5 c = search needs
-
--- src/inner/read.rt:138:9
 returns : tie.Need-returns
-returns c = ?
+returns c =
+    let a = c .before .before .before .before .before .before .before .before .before .before .before .before .before .before .before .before .before .before .before .before .before .before .before .before .before .before .before .before .before .before .before .before .before .before .before .args in
+    let p = c .before .before .before .before .before .before .before .before .before .before .before .before .before .before .before .before .before .before .before .before .before .before .before .before .before .before .before .before .before .before .before .before .before .before .before .pre .0 in
+    let k = c .before .before .before .before .before .before .before .before .before .before .before .before .before .before .before .before .before .before .before .before .before .before .before .before .before .before .track in
+    c .handed-out .ensures _
+    ∙ closed p (a .f) (a .id) (a .position) (a .n .sequence) (a .n .limited) (k .result) _ _ _ (k .ensures) (sym (c .before .before .before .before .before .before .before .before .before .before .before .before .before .before .before .before .before .before .before .retires .ensures) ∙ c .before .before .before .before .before .before .before .before .before .before .before .before .before .before .before .before .before .before .if1 .taken) _ _ _ _ _ _ _ (c .before .before .before .before .before .before .before .before .before .before .before .before .before .before .before .retire-sequence .ensures) (c .before .before .before .before .before .before .before .retire-partial .ensures)
 
--- src/inner/read.rt:140:5
-handed-out-requires-2 : tie.Need-handed-out-requires-2
-handed-out-requires-2 c κs = search needs
-
--- src/inner/read.rt:103:1
-same-length-6 : tie.Need-same-length-6
-same-length-6 c = search needs
-
--- src/inner/read.rt:103:1
-same-length-7 : tie.Need-same-length-7
-same-length-7 c = search needs
-
--- src/inner/read.rt:103:1
-same-length-8 : tie.Need-same-length-8
-same-length-8 c = search needs
-
--- src/inner/read.rt:103:1
 returns-2 : tie.Need-returns-2
-returns-2 c = ?
+returns-2 c =
+    let a = c .before .before .before .before .before .before .before .before .before .before .before .before .before .before .before .before .before .before .args in
+    let p = c .before .before .before .before .before .before .before .before .before .before .before .before .before .before .before .before .before .before .pre .0 in
+    let k = c .before .before .before .before .before .before .before .before .before .track in
+    c .handed-out2 .ensures _
+    ∙ left-open p (a .f) (a .id) (a .position) (a .n .sequence) (a .n .limited) (k .result) _ _ _ (k .ensures) (sym (c .before .before .retires .ensures) ∙ c .before .if1 .left)
 
 pub settle-spec : {M : Type 1} → statement M
 settle-spec =
     tie.close
     (tie.spec
     track-requires
-    retires-requires
+    (λ c κs. search needs)
     retire-sequence-requires
     retire-partial-requires
-    handed-out-requires
-    same-length
-    same-length-2
-    same-length-3
-    same-length-4
-    same-length-5
+    (λ c κs. c .before .before .before .before .before .before .before .before .before .before .before .before .before .before .before .before .before .before .before .before .before .before .before .before .before .before .before .before .before .before .before .before .before .before .pre .1)
+    (λ c. search needs)
+    (λ c. search needs)
+    (λ c. search (needs, c .before .before .before .before .before .before .partial-channels2, c .before .before .before .before .before .before .before .before .before .before .before .before .before .before .before .before .before .before .before .before .before .before .before .before .before .partial-channels))
+    (λ c. search needs)
+    (λ c. search needs)
     returns
-    handed-out-requires-2
-    same-length-6
-    same-length-7
-    same-length-8
+    (λ c κs. c .before .before .before .before .before .before .before .before .before .before .before .before .before .before .before .before .before .pre .1)
+    (λ c. search needs)
+    (λ c. search needs)
+    (λ c. search needs)
     returns-2)
