@@ -9,3 +9,4 @@ pub mod Reading
 pub mod Effects
 pub mod Kept
 pub mod Finishing
+pub mod Lasting

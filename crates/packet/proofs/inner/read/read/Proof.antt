@@ -11,6 +11,7 @@ use Rattle.packet.specs.Answers.{reply}
 use Rattle.packet.specs.Turns.{finishes}
 use Rattle.packet.proofs.Reading.{says-end, says-broken, empty, unmarked, at-end, unread, begun, read-on}
 use Rattle.packet.proofs.Within.{within}
+use Rattle.packet.proofs.Lasting.{state-of}
 use borrow.Author.Needs.{needs}
 use Rattle.packet.proofs.inner.read.read.Statement.{statement}
 use Rattle.packet.proofs.inner.read.read.Tie as tie
@@ -21,8 +22,11 @@ returns c =
     let m = memory (a .sequence-channels .now) (a .sequence-numbers .now) (a .partial-channels .now) (a .partial-sequences .now) (a .partial-reliables .now) in
     let r = a .reader in
     let t = channelsOf (r .sequences) (r .partials) m in
+    let e =
     c .end .ensures m ∙ says-end (c .before .before .before .before .before .before .before .before .pre .0) 0
     ∙ ap (λ (x : Read). reply x m) (sym (empty (r .«max_channels») (a .packet .now) (a .id) (a .at) t (c .before .if1 .taken)))
+    in
+    (e, state-of (c .before .before .before .before .before .before .before .before .pre .0) (a .packet .now) (a .id) (a .at) (c .end .result) _ e)
 
 returns-2 : tie.Need-returns-2
 returns-2 c =
@@ -30,8 +34,11 @@ returns-2 c =
     let m = memory (a .sequence-channels .now) (a .sequence-numbers .now) (a .partial-channels .now) (a .partial-sequences .now) (a .partial-reliables .now) in
     let r = a .reader in
     let t = channelsOf (r .sequences) (r .partials) m in
+    let e =
     c .malformed .ensures m ∙ says-broken (c .before .before .before .before .before .before .before .before .before .before .pre .0) 0 false
     ∙ ap (λ (x : Read). reply x m) (sym (unmarked (r .«max_channels») (a .packet .now) (a .id) (a .at) t (c .before .before .before .if1 .left) (c .before .if2 .taken)))
+    in
+    (e, state-of (c .before .before .before .before .before .before .before .before .before .before .pre .0) (a .packet .now) (a .id) (a .at) (c .malformed .result) _ e)
 
 returns-3 : tie.Need-returns-3
 returns-3 c =
@@ -41,8 +48,11 @@ returns-3 c =
     let d = a .packet .now in
     let t = channelsOf (r .sequences) (r .partials) m in
     let less : dataBits d ≤ a .at = rw (c .before .before .data-bits .ensures .0) at (c .before .if3 .taken) in
+    let e =
     rw (c .before .before .data-bits .ensures .0) at (c .end2 .ensures m) ∙ says-end (c .before .before .before .before .before .before .before .before .before .before .before .before .pre .0) (dataBits d)
     ∙ ap (λ (x : Read). reply x m) (sym (at-end (r .«max_channels») d (a .id) (a .at) t (c .before .before .before .before .before .if1 .left) (c .before .before .before .if2 .left) less))
+    in
+    (e, state-of (c .before .before .before .before .before .before .before .before .before .before .before .before .pre .0) d (a .id) (a .at) (c .end2 .result) _ e)
 
 returns-4 : tie.Need-returns-4
 returns-4 c =
@@ -53,8 +63,11 @@ returns-4 c =
     let t = channelsOf (r .sequences) (r .partials) m in
     let is = c .before .before .before .before .data-bits .ensures .0 in
     let less : a .at < dataBits d = rw is at (c .before .before .before .if3 .left) in
+    let e =
     rw is at (c .malformed2 .ensures m) ∙ says-broken (c .before .before .before .before .before .before .before .before .before .before .before .before .before .before .pre .0) (dataBits d) false
     ∙ ap (λ (x : Read). reply x m) (sym (unread (r .«max_channels») d (a .id) (a .at) t (c .before .before .before .before .before .before .before .if1 .left) (c .before .before .before .before .before .if2 .left) (c .before .before .read-fields .result) less (rw is at (c .before .before .read-fields .ensures)) (c .before .if4 .taken)))
+    in
+    (e, state-of (c .before .before .before .before .before .before .before .before .before .before .before .before .before .before .pre .0) d (a .id) (a .at) (c .malformed2 .result) _ e)
 
 finish-requires : tie.Need-finish-requires
 finish-requires c κs =
@@ -76,8 +89,11 @@ returns-5 c =
     let t = channelsOf (r .sequences) (r .partials) m in
     let is = c .before .before .before .before .before .before .before .before .before .before .before .before .before .before .before .before .before .before .before .data-bits .ensures .0 in
     let less : a .at < dataBits d = rw is at (c .before .before .before .before .before .before .before .before .before .before .before .before .before .before .before .before .before .before .if3 .left) in
+    let e =
     rw is at (c .before .before .before .before .before .before .before .before .before .before .finish .ensures)
     ∙ ap (λ (x : Read). reply x m) (sym (read-on (r .«max_channels») d (a .id) (a .at) t (c .before .before .before .before .before .before .before .before .before .before .before .before .before .before .before .before .before .before .before .before .before .before .if1 .left) (c .before .before .before .before .before .before .before .before .before .before .before .before .before .before .before .before .before .before .before .before .if2 .left) (c .before .before .before .before .before .before .before .before .before .before .before .before .before .before .before .before .before .read-fields .result) less (rw is at (c .before .before .before .before .before .before .before .before .before .before .before .before .before .before .before .before .before .read-fields .ensures)) (c .before .before .before .before .before .before .before .before .before .before .before .before .before .before .before .before .if4 .left)))
+    in
+    (e, state-of (c .before .before .before .before .before .before .before .before .before .before .before .before .before .before .before .before .before .before .before .before .before .before .before .before .before .before .before .before .before .pre .0) d (a .id) (a .at) (c .before .before .before .before .before .before .before .before .before .before .finish .result) _ e)
 
 pub read-spec : {M : Type 1} → statement M
 read-spec =
