@@ -63,11 +63,34 @@ module _ {limit s p : ℕ} {m : Memory} (state : State limit s p m) (f : BunchFi
     unfolding finishes channelsOf laidIn
     overrun h =
         let q = same-partials state in
-        rw (lt-ltb (end - at) (f .«payload_bit_count») h, laid-twice (channels (N .table)) (m .sequenceChannels), laid-twice (values (N .table)) (m .sequenceNumbers),
-        q .channels-same, q .sequences-same, q .reliables-same, q .channels-same, q .sequences-same, q .reliables-same, partials-held state .size, live, limited, channels-are, numbers-are)
+        rw (
+          lt-ltb (end - at) (f .«payload_bit_count») h,
+          laid-twice (channels (N .table)) (m .sequenceChannels),
+          laid-twice (values (N .table)) (m .sequenceNumbers),
+          q .channels-same,
+          q .sequences-same,
+          q .reliables-same,
+          q .channels-same,
+          q .sequences-same,
+          q .reliables-same,
+          partials-held state .size,
+          live,
+          limited,
+          channels-are,
+          numbers-are,
+        )
 
     pub fits : f .«payload_bit_count» ≤ end - at → settles limit (n .live) p f id at (n .sequence) (n .limited) after ≡ finishes limit s p end f id at m
     unfolding settles finishes whole channelsOf laidIn
     fits h =
-        rw (le-ltb (end - at) (f .«payload_bit_count») h, live, sequence, limited, channels-are, numbers-are, sequences-back (N .table) (m .sequenceChannels) (m .sequenceNumbers),
-        laid-twice (channels (N .table)) (m .sequenceChannels), laid-twice (values (N .table)) (m .sequenceNumbers))
+        rw (
+          le-ltb (end - at) (f .«payload_bit_count») h,
+          live,
+          sequence,
+          limited,
+          channels-are,
+          numbers-are,
+          sequences-back (N .table) (m .sequenceChannels) (m .sequenceNumbers),
+          laid-twice (channels (N .table)) (m .sequenceChannels),
+          laid-twice (values (N .table)) (m .sequenceNumbers),
+        )

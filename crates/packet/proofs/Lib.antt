@@ -10,3 +10,4 @@ pub mod Effects
 pub mod Kept
 pub mod Finishing
 pub mod Lasting
+pub mod Calls

@@ -3,13 +3,16 @@ ghost use mathlib.Core.Path.{_≡_};
 ghost use Prim.Native.Nat.{_≤_};
 ghost use lib.ListN.{length};
 ghost use Rattle.packet.specs.Memory.{Memory, memory, fitting, fit, sound};
-ghost use Rattle.packet.specs.Answers.{ofOpened, opened, ofRead, refuses, packetPaper};
+ghost use Rattle.packet.specs.Answers.{ofOpened, opened, ofRead, readBunch, refuses, packetPaper};
 use crate::Bunch;
 use crate::BunchRead;
 use crate::Opened;
 use crate::PacketError;
 use crate::Reader;
+use crate::inner::bunch;
+use crate::inner::read;
 use bitio::PacketBit;
+use bitio::inner::signed;
 use tables::inner;
 
 fn fitting(limit: usize, a: usize, b: usize, c: usize, d: usize, e: usize) -> bool
@@ -87,4 +90,62 @@ fn refused(e: PacketError, at: PacketBit, reader: Reader) -> BunchRead
         sequences: reader.sequences,
         partials: reader.partials,
     }
+}
+
+// The bunch at a cursor, or why not: 10, 8, then 5 for a cursor past the data's end.
+pub fn read_bunch(
+    packet: &[u8],
+    packet_id: i32,
+    at: PacketBit,
+    reader: Reader,
+    sequence_channels: &mut [u32],
+    sequence_numbers: &mut [u32],
+    partial_channels: &mut [u32],
+    partial_sequences: &mut [u32],
+    partial_reliables: &mut [u32],
+) -> BunchRead
+    ensures { λ r. ⌜ ofRead r (memory (now («sequence_channels» .exit)) (now («sequence_numbers» .exit)) (now («partial_channels» .exit)) (now («partial_sequences» .exit)) (now («partial_reliables» .exit))) ≡ readBunch (now (packet .entry)) «packet_id» (at .0) reader (memory (now («sequence_channels» .entry)) (now («sequence_numbers» .entry)) (now («partial_channels» .entry)) (now («partial_sequences» .entry)) (now («partial_reliables» .entry))) ⌝ }
+{
+    if !sound(
+        reader,
+        sequence_channels,
+        sequence_numbers,
+        partial_channels,
+        partial_sequences,
+        partial_reliables,
+    ) {
+        return refused(PacketError::Unsound, at, reader);
+    }
+    let size = packet.len();
+    if size > 65535 {
+        return refused(
+            PacketError::PacketTooLong {
+                length: size as u64,
+            },
+            at,
+            reader,
+        );
+    }
+    let bits = bunch::data_bits(packet);
+    if bits < at.0 {
+        return refused(
+            PacketError::CursorPastEnd {
+                position: at.0,
+                available: bits,
+            },
+            at,
+            reader,
+        );
+    }
+    read::read(
+        packet,
+        signed::to_word(packet_id),
+        at.0,
+        reader,
+        sequence_channels,
+        sequence_numbers,
+        partial_channels,
+        partial_sequences,
+        partial_reliables,
+    )
 }
