@@ -1,0 +1,6 @@
+pub mod Texts
+pub mod Digits
+pub mod Back
+pub mod Signs
+pub mod Values
+pub mod Example

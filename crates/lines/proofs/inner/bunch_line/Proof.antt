@@ -1,0 +1,12 @@
+-- The two halves are the line.
+use Rattle.lines.proofs.Texts.{then, halves}
+use borrow.Author.Needs.{needs}
+use Rattle.lines.proofs.inner.bunch_line.Statement.{statement}
+use Rattle.lines.proofs.inner.bunch_line.Tie as tie
+
+returns : tie.Need-returns
+returns c = rw (halves (c .before .before .before .before .before .before .before .before .before .args .line)) at (then (c .before .before .before .before .before .before .bunch-names .ensures) (c .before .before .bunch-payload .ensures))
+
+pub bunch-line-spec : {M : Type 1} → statement M
+bunch-line-spec =
+    tie.close (tie.spec (λ c κs. search needs) (λ c κs. search needs) (λ c. search needs) returns)

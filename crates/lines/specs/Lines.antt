@@ -1,0 +1,94 @@
+-- Document 01's "Writer and log": the listing's lines as bytes, and what writing one does to a lent slice.
+use Prim.Native.Nat.{ℕ, _+_}
+use mathlib.Core.Bool.{Bool, true, false, cond}
+use mathlib.Core.List.{List, [], _∷_, _++_}
+use lib.Dec.{leb}
+use lib.ListN.{length, set}
+use Rattle.lines.specs.declared.BunchLine.{BunchLine}
+use Rattle.lines.specs.declared.PacketLine.{PacketLine}
+use Rattle.lines.specs.declared.Text.{Text}
+use Rattle.lines.specs.declared.Line.{Line}
+use Rattle.lines.specs.Decimal.{decimal, decimalSigned}
+
+-- "single spaces, a newline after each line"
+abbrev pub fields : List (List ℕ) → List ℕ
+fields [] = 10 ∷ []
+fields (t ∷ ts) = (32 ∷ t) ++ fields ts
+
+abbrev pub line : ℕ → List (List ℕ) → List ℕ
+line letter ts = letter ∷ fields ts
+
+-- a letter "or a dash"
+abbrev pub mark : Bool → ℕ → ℕ
+mark on letter = cond on letter 45
+
+-- "R P I F or dashes"
+abbrev pub flags : BunchLine → List ℕ
+flags b = mark (b .«b_reliable») 82 ∷ mark (b .«b_partial») 80 ∷ mark (b .«b_partial_initial») 73 ∷ mark (b .«b_partial_final») 70 ∷ []
+
+-- "K completed, E partial error, L limit, or a dash"
+abbrev pub state : BunchLine → ℕ
+state b = cond (b .«has_channel_limit_error») 76 (cond (b .«has_partial_error») 69 (mark (b .«is_partial_completed») 75))
+
+-- "0 or 1"
+abbrev pub bit : Bool → ℕ
+bit on = cond on 49 48
+
+-- "Per bunch: B, packet id, channel, sequence, R P I F or dashes, payload count, offset, and K completed, E partial error, L
+-- limit, or a dash."
+unfoldable pub bunchLine : BunchLine → List ℕ
+bunchLine b =
+    line 66
+    (decimalSigned (b .«packet_id»)
+    ∷ decimal (b .«ch_index»)
+    ∷ decimalSigned (b .«ch_sequence»)
+    ∷ flags b
+    ∷ decimal (b .«payload_bit_count»)
+    ∷ decimal (b .«payload_bit_offset»)
+    ∷ (state b ∷ [])
+    ∷ [])
+
+-- "Per packet: P, id, bunches, malformed 0 or 1, partial errors, limit errors."
+unfoldable pub packetLine : PacketLine → List ℕ
+packetLine p =
+    line 80
+    (decimalSigned (p .«packet_id»)
+    ∷ decimal (p .bunches)
+    ∷ (bit (p .malformed) ∷ [])
+    ∷ decimal (p .«partial_errors»)
+    ∷ decimal (p .«limit_errors»)
+    ∷ [])
+
+-- "Another version: V and the byte."
+abbrev pub versionLine : ℕ → List ℕ
+versionLine b = line 86 (decimal b ∷ [])
+
+-- "A cut record: X and the byte offset of its start"
+abbrev pub cutLine : ℕ → List ℕ
+cutLine i = line 88 (decimal i ∷ [])
+
+-- any of the lines
+abbrev pub textOf : Text → List ℕ
+textOf (Text.Bunch b) = bunchLine b
+textOf (Text.Packet p) = packetLine p
+textOf (Text.Version b) = versionLine b
+textOf (Text.Cut i) = cutLine i
+
+-- a text's bytes one after another from a place on, and all other bytes as they were
+unfoldable pub written : List ℕ → ℕ → List ℕ → List ℕ
+written out at [] = out
+written out at (b ∷ text) = written (set out at b) (at + 1) text
+
+-- No line is longer: what the contracts of `inner` show.
+abbrev pub lineRoom : ℕ
+lineRoom = 96
+
+-- A line is written where any would find room.
+abbrev pub roomAt : List ℕ → ℕ → Bool
+roomAt out at = leb (at + lineRoom) (length out)
+
+unfoldable pub lineAnswers : List ℕ → ℕ → List ℕ → Line
+lineAnswers out at text = cond (roomAt out at) (Line.Written (at + length text)) (Line.NoRoom lineRoom)
+
+unfoldable pub lineLeaves : List ℕ → ℕ → List ℕ → List ℕ
+lineLeaves out at text = cond (roomAt out at) (written out at text) out

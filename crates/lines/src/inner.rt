@@ -1,0 +1,197 @@
+// The lines where any would find room: pieces in a row, each from where the last one ended.
+ghost use mathlib.Core.Path.{_≡_};
+ghost use mathlib.Core.List.{[], _∷_};
+ghost use Prim.Native.Nat.{_+_, _≤_};
+ghost use lib.ListN.{length};
+ghost use Rattle.lines.specs.Decimal.{lastDigit, decimal, decimalSigned};
+ghost use Rattle.lines.specs.Lines.{mark, bit, flags, state, line, bunchLine, packetLine, versionLine, cutLine, textOf, lineRoom};
+ghost use Rattle.lines.specs.Puts.{Put, bunchNames, bunchPayload};
+use crate::BunchLine;
+use crate::PacketLine;
+use crate::Text;
+use bitio::inner::signed;
+
+fn byte(out: &mut [u8], at: usize, value: u8) -> usize
+    requires { ⌜ at + 1 ≤ length (now out) ⌝ }
+    ensures { λ r. ⌜ Put 1 (now (out .entry)) at (value ∷ []) (now (out .exit)) r ⌝ }
+{
+    out[at] = value;
+    at + 1
+}
+
+fn digit_count(n: u64) -> usize
+    ensures { λ r. ⌜ r ≡ length (decimal n) ⌝ }
+{
+    let mut rest = n / 10;
+    let mut count: usize = 1;
+    while rest > 0 {
+        rest /= 10;
+        count += 1;
+    }
+    count
+}
+
+fn digit(n: u64) -> u8
+    ensures { λ r. ⌜ r ≡ lastDigit n ⌝ }
+{
+    (48 + n % 10) as u8
+}
+
+// From the last digit back to the first.
+fn digits(out: &mut [u8], at: usize, n: u64) -> usize
+    requires { ⌜ at + length (decimal n) ≤ length (now out) ⌝ }
+    ensures { λ r. ⌜ Put (length (decimal n)) (now (out .entry)) at (decimal n) (now (out .exit)) r ⌝ }
+{
+    let end = at + digit_count(n);
+    let mut place = end - 1;
+    let mut rest = n / 10;
+    out[place] = digit(n);
+    while rest > 0 {
+        place -= 1;
+        out[place] = digit(rest);
+        rest /= 10;
+    }
+    end
+}
+
+fn number(out: &mut [u8], at: usize, n: u64) -> usize
+    requires { ⌜ at + 21 ≤ length (now out) ⌝ }
+    ensures { λ r. ⌜ Put 21 (now (out .entry)) at (32 ∷ decimal n) (now (out .exit)) r ⌝ }
+{
+    let text = byte(out, at, b' ');
+    digits(out, text, n)
+}
+
+fn signed_number(out: &mut [u8], at: usize, n: i32) -> usize
+    requires { ⌜ at + 12 ≤ length (now out) ⌝ }
+    ensures { λ r. ⌜ Put 12 (now (out .entry)) at (32 ∷ decimalSigned n) (now (out .exit)) r ⌝ }
+{
+    let word = signed::to_word(n);
+    let sign = byte(out, at, b' ');
+    if word < 2147483648 {
+        return digits(out, sign, word as u64);
+    }
+    let text = byte(out, sign, b'-');
+    digits(out, text, 4294967296 - word as u64)
+}
+
+fn letter(out: &mut [u8], at: usize, value: u8) -> usize
+    requires { ⌜ at + 2 ≤ length (now out) ⌝ }
+    ensures { λ r. ⌜ Put 2 (now (out .entry)) at (32 ∷ value ∷ []) (now (out .exit)) r ⌝ }
+{
+    let text = byte(out, at, b' ');
+    byte(out, text, value)
+}
+
+fn mark_of(on: bool, value: u8) -> u8
+    ensures { λ r. ⌜ r ≡ mark on value ⌝ }
+{
+    if on { value } else { b'-' }
+}
+
+fn flag_field(out: &mut [u8], at: usize, line: BunchLine) -> usize
+    requires { ⌜ at + 5 ≤ length (now out) ⌝ }
+    ensures { λ r. ⌜ Put 5 (now (out .entry)) at (32 ∷ flags line) (now (out .exit)) r ⌝ }
+{
+    let first = letter(out, at, mark_of(line.b_reliable, b'R'));
+    let second = byte(out, first, mark_of(line.b_partial, b'P'));
+    let third = byte(out, second, mark_of(line.b_partial_initial, b'I'));
+    byte(out, third, mark_of(line.b_partial_final, b'F'))
+}
+
+fn state_of(line: BunchLine) -> u8
+    ensures { λ r. ⌜ r ≡ state line ⌝ }
+{
+    if line.has_channel_limit_error {
+        return b'L';
+    }
+    if line.has_partial_error {
+        return b'E';
+    }
+    mark_of(line.is_partial_completed, b'K')
+}
+
+fn zero_or_one(on: bool) -> u8
+    ensures { λ r. ⌜ r ≡ bit on ⌝ }
+{
+    if on { b'1' } else { b'0' }
+}
+
+// The line in two halves: "B, packet id, channel, sequence", and the fields after them.
+fn bunch_names(out: &mut [u8], at: usize, line: BunchLine) -> usize
+    requires { ⌜ at + 46 ≤ length (now out) ⌝ }
+    ensures { λ r. ⌜ Put 46 (now (out .entry)) at (bunchNames line) (now (out .exit)) r ⌝ }
+{
+    let kind = byte(out, at, b'B');
+    let id = signed_number(out, kind, line.packet_id);
+    let channel = number(out, id, line.ch_index as u64);
+    signed_number(out, channel, line.ch_sequence)
+}
+
+fn bunch_payload(out: &mut [u8], at: usize, line: BunchLine) -> usize
+    requires { ⌜ at + 50 ≤ length (now out) ⌝ }
+    ensures { λ r. ⌜ Put 50 (now (out .entry)) at (bunchPayload line) (now (out .exit)) r ⌝ }
+{
+    let flags = flag_field(out, at, line);
+    let count = number(out, flags, line.payload_bit_count as u64);
+    let offset = number(out, count, line.payload_bit_offset);
+    let state = letter(out, offset, state_of(line));
+    byte(out, state, b'\n')
+}
+
+pub fn bunch_line(out: &mut [u8], at: usize, line: BunchLine) -> usize
+    requires { ⌜ at + lineRoom ≤ length (now out) ⌝ }
+    ensures { λ r. ⌜ Put 96 (now (out .entry)) at (bunchLine line) (now (out .exit)) r ⌝ }
+{
+    let payload = bunch_names(out, at, line);
+    bunch_payload(out, payload, line)
+}
+
+pub fn packet_line(out: &mut [u8], at: usize, line: PacketLine) -> usize
+    requires { ⌜ at + lineRoom ≤ length (now out) ⌝ }
+    ensures { λ r. ⌜ Put 79 (now (out .entry)) at (packetLine line) (now (out .exit)) r ⌝ }
+{
+    let kind = byte(out, at, b'P');
+    let id = signed_number(out, kind, line.packet_id);
+    let bunches = number(out, id, line.bunches);
+    let malformed = letter(out, bunches, zero_or_one(line.malformed));
+    let errors = number(out, malformed, line.partial_errors);
+    let limits = number(out, errors, line.limit_errors);
+    byte(out, limits, b'\n')
+}
+
+// A letter and one number.
+fn short_line(out: &mut [u8], at: usize, kind: u8, n: u64) -> usize
+    requires { ⌜ at + lineRoom ≤ length (now out) ⌝ }
+    ensures { λ r. ⌜ Put 23 (now (out .entry)) at (line kind (decimal n ∷ [])) (now (out .exit)) r ⌝ }
+{
+    let first = byte(out, at, kind);
+    let second = number(out, first, n);
+    byte(out, second, b'\n')
+}
+
+pub fn version_line(out: &mut [u8], at: usize, version: u8) -> usize
+    requires { ⌜ at + lineRoom ≤ length (now out) ⌝ }
+    ensures { λ r. ⌜ Put 23 (now (out .entry)) at (versionLine version) (now (out .exit)) r ⌝ }
+{
+    short_line(out, at, b'V', version as u64)
+}
+
+pub fn cut_line(out: &mut [u8], at: usize, offset: u64) -> usize
+    requires { ⌜ at + lineRoom ≤ length (now out) ⌝ }
+    ensures { λ r. ⌜ Put 23 (now (out .entry)) at (cutLine offset) (now (out .exit)) r ⌝ }
+{
+    short_line(out, at, b'X', offset)
+}
+
+pub fn write(out: &mut [u8], at: usize, text: Text) -> usize
+    requires { ⌜ at + lineRoom ≤ length (now out) ⌝ }
+    ensures { λ r. ⌜ Put lineRoom (now (out .entry)) at (textOf text) (now (out .exit)) r ⌝ }
+{
+    match text {
+        Text::Bunch(line) => bunch_line(out, at, line),
+        Text::Packet(line) => packet_line(out, at, line),
+        Text::Version(version) => version_line(out, at, version),
+        Text::Cut(offset) => cut_line(out, at, offset),
+    }
+}
