@@ -6,10 +6,11 @@ use Rattle.bitio.specs.Refusals.{endless, tooLarge, zeroMaximum}
 use Rattle.bitio.specs.Parse.{_>>=_, _>>_, give, refuse, refuseIf, readIf, place}
 use Rattle.bitio.specs.Reads.{dataFits, windowFits, cursorFits, sound, need, taken, bits, packedFrom, packed, log2, serialized, readPacked, readSerialized}
 use Rattle.bitio.specs.Reads.{bit, readBit}
+use Rattle.packet.specs.Packet.{dataBits, nextBunch}
 use Rattle.field.specs.Records.{remaining, payload, counted, repLayout, call, classNetCache}
 use Rattle.field.specs.Walks.{unresolved, walk, parseRepLayout, parseClassNetCache}
 use Rattle.claims.specs.DeskChecks.{deskChecks, Hold}
 
 pub desk-checks : Hold deskChecks
-unfolding leadingZeros bitAt bitsAt endless tooLarge zeroMaximum _>>=_ _>>_ give refuse refuseIf readIf place dataFits windowFits cursorFits sound need taken bits packedFrom packed log2 serialized readPacked readSerialized bit readBit remaining payload counted repLayout call classNetCache unresolved walk parseRepLayout parseClassNetCache
-desk-checks = (refl, (refl, (refl, (refl, (refl, (refl, (refl, (refl, (refl, (refl, (refl, (refl, tt))))))))))))
+unfolding leadingZeros bitAt bitsAt endless tooLarge zeroMaximum _>>=_ _>>_ give refuse refuseIf readIf place dataFits windowFits cursorFits sound need taken bits packedFrom packed log2 serialized readPacked readSerialized bit readBit remaining payload counted repLayout call classNetCache unresolved walk parseRepLayout parseClassNetCache dataBits nextBunch
+desk-checks = (refl, (refl, (refl, (refl, (refl, (refl, (refl, (refl, (refl, (refl, (refl, (refl, (refl, (refl, tt))))))))))))))

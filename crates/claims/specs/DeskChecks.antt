@@ -7,6 +7,7 @@ use Rattle.bitio.specs.declared.Window.{Window}
 use Rattle.bitio.specs.Parse.{Answer, got, refused, Parse}
 use Rattle.bitio.specs.Reads.{readPacked, readSerialized}
 use Rattle.bitio.specs.Windows.{front}
+use Rattle.packet.specs.Packet.{Outcome, bunch, end, malformed, Read, nextBunch}
 use Rattle.field.specs.Walks.{Stop, ended, tail, abandoned, Walked, parseRepLayout, parseClassNetCache}
 
 -- values and how many bits were read, after a 0; or the refusal's number, what it returns, and where the reader then stands
@@ -37,6 +38,17 @@ walking n bytes p =
     let x = p bytes ((7 ∷ 7 ∷ 7 ∷ 7 ∷ []) ∷ []) (front n) in
     told stop (x .answer) ++ (x .count ∷ joined (x .places))
 
+-- a packet read from its first bit on, over empty tables: 0 a bunch, 1 the end, 2 malformed; the next cursor; how many bunches and malformed packets
+abbrev pub outcome : Outcome → ℕ
+outcome (bunch h w) = 0
+outcome end = 1
+outcome malformed = 2
+
+abbrev pub reading : List ℕ → List ℕ
+reading packet =
+    let x = nextBunch 4096 packet 0 0 (record { sequences = []; partials = [] }) in
+    outcome (x .outcome) ∷ x .next ∷ x .bunches ∷ x .malformedPackets ∷ []
+
 pub record Check : Type 0 where
   pub gives : List ℕ
   pub says : List ℕ
@@ -61,6 +73,9 @@ deskChecks =
     ∷ check (walking 9 (0 ∷ 0 ∷ []) (parseRepLayout true)) (0 ∷ 0 ∷ 0 ∷ 9 ∷ 0 ∷ 7 ∷ 7 ∷ 7 ∷ 7 ∷ [])
     ∷ check (walking 8 (0 ∷ []) (parseClassNetCache 2)) (0 ∷ 2 ∷ 8 ∷ 8 ∷ 0 ∷ 7 ∷ 7 ∷ 7 ∷ 7 ∷ [])
     ∷ check (walking 9 (0 ∷ 0 ∷ []) (parseClassNetCache 1)) (0 ∷ 0 ∷ 0 ∷ 9 ∷ 1 ∷ 0 ∷ 0 ∷ 9 ∷ 9 ∷ [])
+    -- "Packet 01: no bunches, sound. Packet 00: malformed."
+    ∷ check (reading (0x01 ∷ [])) (1 ∷ 0 ∷ 0 ∷ 0 ∷ [])
+    ∷ check (reading (0x00 ∷ [])) (2 ∷ 0 ∷ 0 ∷ 1 ∷ [])
     ∷ []
 
 -- the claim: each row gives what the document says

@@ -11,3 +11,5 @@ pub mod Kept
 pub mod Finishing
 pub mod Lasting
 pub mod Calls
+pub mod Words
+pub mod Determined
