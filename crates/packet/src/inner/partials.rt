@@ -1,12 +1,11 @@
 // The partial tracker: the Rust's `track_partial_bunch` and `validate_continuation`.
 ghost use mathlib.Core.Path.{_≡_};
 ghost use Prim.Native.Nat.{_≤_, _<_};
-ghost use lib.Dec.{leb};
 ghost use lib.ListN.{length, take};
 ghost use Rattle.tables.specs.declared.Slot.{Slot};
-ghost use Rattle.tables.specs.Tables.{get, slotOf};
-ghost use Rattle.packet.specs.Partials.{agree, continues, initial, continuing, judged};
-ghost use Rattle.packet.specs.Judging.{Roomy, heldOf, verdictOf};
+ghost use Rattle.tables.specs.Tables.{slotOf};
+ghost use Rattle.packet.specs.Partials.{agree, continues, tracked, initial, continuing, judged};
+ghost use Rattle.packet.specs.Judging.{Roomy, heldOf, effectOf, verdictOf};
 ghost use Rattle.packet.specs.Memory.{partialsAt, trackedIn, effectedIn, fragmentTo, tracksTo};
 ghost use Rattle.packet.specs.Fits.{Fits, Live};
 use crate::BunchFields;
@@ -55,47 +54,37 @@ fn continues(held_sequence: u32, held_reliable: u32, reliable: bool, sequence: u
             | (!reliable & (sequence == held_sequence)))
 }
 
+fn ruled(effect: Effect, error: bool, completed: bool) -> Verdict
+    ensures { λ r. ⌜ verdictOf r ≡ tracked (effectOf effect) error completed ⌝ }
+{
+    Verdict {
+        effect,
+        error,
+        completed,
+    }
+}
+
 fn initial(held: Held, last: bool, full: bool) -> Verdict
     ensures { λ r. ⌜ verdictOf r ≡ initial last full (heldOf held) ⌝ }
 {
     match held {
         Held::Nothing => {
             if last {
-                return Verdict {
-                    effect: Effect::Removed,
-                    error: false,
-                    completed: true,
-                };
+                return ruled(Effect::Removed, false, true);
             }
             if full {
-                return Verdict {
-                    effect: Effect::Stays,
-                    error: true,
-                    completed: false,
-                };
+                return ruled(Effect::Stays, true, false);
             }
-            Verdict {
-                effect: Effect::Puts,
-                error: false,
-                completed: false,
-            }
+            ruled(Effect::Puts, false, false)
         }
         Held::InFlight {
             sequence: _,
             reliable: _,
         } => {
             if last {
-                return Verdict {
-                    effect: Effect::Removed,
-                    error: true,
-                    completed: false,
-                };
+                return ruled(Effect::Removed, true, false);
             }
-            Verdict {
-                effect: Effect::Puts,
-                error: true,
-                completed: false,
-            }
+            ruled(Effect::Puts, true, false)
         }
     }
 }
@@ -104,34 +93,18 @@ fn continuing(held: Held, last: bool, reliable: bool, next: u32) -> Verdict
     ensures { λ r. ⌜ verdictOf r ≡ continuing last reliable next (heldOf held) ⌝ }
 {
     match held {
-        Held::Nothing => Verdict {
-            effect: Effect::Stays,
-            error: true,
-            completed: false,
-        },
+        Held::Nothing => ruled(Effect::Stays, true, false),
         Held::InFlight {
             sequence: previous,
             reliable: word,
         } => {
             if !continues(previous, word, reliable, next) {
-                return Verdict {
-                    effect: Effect::Removed,
-                    error: true,
-                    completed: false,
-                };
+                return ruled(Effect::Removed, true, false);
             }
             if last {
-                return Verdict {
-                    effect: Effect::Removed,
-                    error: false,
-                    completed: true,
-                };
+                return ruled(Effect::Removed, false, true);
             }
-            Verdict {
-                effect: Effect::Puts,
-                error: false,
-                completed: false,
-            }
+            ruled(Effect::Puts, false, false)
         }
     }
 }

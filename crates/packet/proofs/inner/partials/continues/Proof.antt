@@ -6,7 +6,7 @@ use Rattle.packet.proofs.inner.partials.continues.Tie as tie
 
 returns : tie.Need-returns
 unfolding continues
-returns c = cc
+returns c = rw (c .agree .ensures, c .before .following .ensures)
 
 pub continues-spec : {M : Type 1} → statement M
 continues-spec = tie.close (tie.spec (λ c κs. search needs) (λ c κs. search needs) returns)
