@@ -8,16 +8,17 @@ use borrow.Author.Tests.{le-ltb, lt-ltb}
 use Rattle.tables.specs.Columns.{laid}
 use Rattle.tables.specs.Tables.{Table, channels, values}
 use Rattle.tables.proofs.Columns.{laid-twice}
-use Rattle.packet.specs.declared.BunchFields.{BunchFields}
-use Rattle.packet.specs.declared.inner.sequences.Numbered as I
-use Rattle.packet.specs.Sequences.{Numbered, numbered}
-use Rattle.packet.specs.Partials.{Partial}
+use Rattle.header.specs.declared.BunchFields.{BunchFields}
+use Rattle.channels.specs.declared.inner.sequences.Numbered as I
+use Rattle.channels.specs.Sequences.{Numbered, numbered}
+use Rattle.channels.specs.Partials.{Partial}
 use Rattle.packet.specs.Packet.{malformed, whole}
-use Rattle.packet.specs.Memory.{Memory, memory, sequencesAt, partialsAt, channelsOf, laidIn, NumberedIn, numberedIn, sequencesLaid}
-use Rattle.packet.specs.Fits.{State}
+use Rattle.channels.specs.Places.{sequencesAt, partialsAt, NumberedIn, numberedIn, sequencesLaid}
+use Rattle.packet.specs.Memory.{Memory, memory, channelsOf, laidIn}
+use Rattle.packet.specs.State.{State}
 use Rattle.packet.specs.Turns.{stopping, settles, finishes}
 use Rattle.packet.proofs.Reading.{partials-held, same-partials}
-use Rattle.packet.proofs.Kept.{Kept, kept-fits, kept-size, sequences-kept, numbered-kept, sequences-back}
+use Rattle.channels.proofs.Kept.{Kept, kept-fits, kept-size, sequences-kept, numbered-kept, sequences-back}
 
 module _ {limit s p : ℕ} {m : Memory} (state : State limit s p m) (f : BunchFields) (id at end : ℕ) where
   abbrev S : Table ℕ

@@ -7,16 +7,16 @@ use lib.Dec.{eqb, leb, ltb}
 use lib.ListN.{length, length-map}
 use Rattle.tables.specs.Columns.{laid}
 use Rattle.tables.specs.Tables.{Table, channels, values}
-use Rattle.packet.specs.declared.BunchFields.{BunchFields}
-use Rattle.packet.specs.Header.{Header, unreadable, readable, headerOf, fields}
-use Rattle.packet.specs.Sequences.{Numbered, numbered}
-use Rattle.packet.specs.Partials.{Partial, Tracked, tracking}
+use Rattle.header.specs.declared.BunchFields.{BunchFields}
+use Rattle.header.specs.Header.{Header, unreadable, readable, headerOf, fields}
+use Rattle.channels.specs.Sequences.{Numbered, numbered}
+use Rattle.channels.specs.Partials.{Partial, Tracked, tracking}
 use Rattle.packet.specs.Packet.{Channels, Read, lastByte, dataBits, rest, ended, broken, holding, retired, retires, whole, compared, headed, nextBunch}
 use Rattle.packet.specs.Memory.{Memory, channelsOf, laidIn}
-use Rattle.packet.specs.Fits.{State}
+use Rattle.packet.specs.State.{State}
 use Rattle.packet.specs.declared.BunchRead.{BunchRead}
 use Rattle.packet.specs.Answers.{Reply, ofRead, reply}
-use Rattle.packet.proofs.Kept.{Kept, without-kept, kept-fits, kept-size, numbered-kept, tracking-kept, sequences-kept, partials-kept}
+use Rattle.channels.proofs.Kept.{Kept, without-kept, kept-fits, kept-size, numbered-kept, tracking-kept, sequences-kept, partials-kept}
 
 pub record Both (limit : ℕ) (t : Channels) : Type 0 where
   pub sequences-kept : Kept limit (t .sequences)

@@ -1,13 +1,6 @@
-pub mod Rows
-pub mod Numbering
 pub mod Soundness
-pub mod Turning
-pub mod Tracking
-pub mod Retiring
-pub mod Within
 pub mod Reading
-pub mod Effects
-pub mod Kept
+pub mod Turning
 pub mod Finishing
 pub mod Lasting
 pub mod Calls

@@ -11,14 +11,16 @@ use Rattle.tables.specs.Columns.{laid, beside}
 use Rattle.tables.specs.Tables.{channels, values}
 use Rattle.tables.proofs.Columns.{laid-take, length-beside, beside-first, beside-second}
 use Rattle.tables.proofs.Held.{Holds, holds}
-use Rattle.packet.specs.declared.BunchFields.{BunchFields}
-use Rattle.packet.specs.Header.{Header, unreadable, readable, headerOf, fields}
-use Rattle.packet.specs.declared.inner.header.HeaderRead.{HeaderRead}
-use Rattle.packet.specs.Row.{headerRead}
-use Rattle.packet.specs.Sequences.{numbered}
+use Rattle.header.specs.declared.BunchFields.{BunchFields}
+use Rattle.header.specs.Header.{Header, unreadable, readable, headerOf, fields}
+use Rattle.header.specs.declared.inner.HeaderRead.{HeaderRead}
+use Rattle.header.specs.Row.{headerRead}
+use Rattle.channels.specs.Sequences.{numbered}
 use Rattle.packet.specs.Packet.{compared, Channels, Outcome, end, malformed, Read, lastByte, dataBits, rest, ended, broken, headed, nextBunch}
-use Rattle.packet.specs.Memory.{Memory, sequencesAt, partialsAt, channelsOf, laidIn}
-use Rattle.packet.specs.Fits.{Fits, State}
+use Rattle.channels.specs.Places.{sequencesAt, partialsAt}
+use Rattle.packet.specs.Memory.{Memory, channelsOf, laidIn}
+use Rattle.channels.specs.Fits.{Fits}
+use Rattle.packet.specs.State.{State}
 use Rattle.packet.specs.Answers.{reply}
 use Rattle.packet.specs.Turns.{stopping}
 

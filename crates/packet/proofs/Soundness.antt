@@ -10,7 +10,8 @@ use borrow.Author.Tests.{leb-true}
 use Rattle.tables.specs.Columns.{ascending}
 use Rattle.types.specs.Types.{mostChannels}
 use Rattle.packet.specs.Memory.{Memory, fitting, fit, sound}
-use Rattle.packet.specs.Fits.{Fits, State}
+use Rattle.channels.specs.Fits.{Fits}
+use Rattle.packet.specs.State.{State}
 
 both : (a b : Bool) → (a && b) ≡ true → (a ≡ true) × (b ≡ true)
 both true b h = (refl, h)

@@ -7,15 +7,17 @@ use lib.ListN.{length, length-map}
 use Rattle.tables.specs.Columns.{laid}
 use Rattle.tables.specs.Tables.{Table, without, channels, values}
 use Rattle.tables.proofs.Columns.{laid-take, laid-twice}
-use Rattle.packet.specs.declared.BunchFields.{BunchFields}
-use Rattle.packet.specs.Partials.{Partial, Tracked, tracking, effected, inFlight}
+use Rattle.header.specs.declared.BunchFields.{BunchFields}
+use Rattle.channels.specs.Partials.{Partial, Tracked, tracking, effected, inFlight}
 use Rattle.packet.specs.Packet.{retires, whole}
-use Rattle.packet.specs.Memory.{Memory, memory, sequencesAt, partialsAt, channelsOf, laidIn, TrackedIn, trackedIn, tracksTo, LaidSequences, LaidPartials}
-use Rattle.packet.specs.Fits.{Fits, State}
+use Rattle.channels.specs.Places.{sequencesAt, partialsAt, TrackedIn, trackedIn, tracksTo, LaidSequences, LaidPartials}
+use Rattle.packet.specs.Memory.{Memory, memory, channelsOf, laidIn}
+use Rattle.channels.specs.Fits.{Fits}
+use Rattle.packet.specs.State.{State}
 use Rattle.packet.specs.Turns.{handedOut, settles}
-use Rattle.packet.specs.declared.inner.partials.Tracked as T
+use Rattle.channels.specs.declared.inner.partials.Tracked as T
 use Rattle.packet.proofs.Reading.{sequences-held}
-use Rattle.packet.proofs.Kept.{Kept, kept-fits, kept-size, tracking-kept, partials-kept, partials-back}
+use Rattle.channels.proofs.Kept.{Kept, kept-fits, kept-size, tracking-kept, partials-kept, partials-back}
 
 module _ {limit s p : ℕ} {m : Memory} (state : State limit s p m) where
   abbrev S : Table ℕ

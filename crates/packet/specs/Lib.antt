@@ -1,10 +1,5 @@
-pub mod Header
-pub mod Row
-pub mod Sequences
-pub mod Partials
-pub mod Judging
 pub mod Packet
 pub mod Memory
-pub mod Fits
+pub mod State
 pub mod Answers
 pub mod Turns

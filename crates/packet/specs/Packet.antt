@@ -12,10 +12,10 @@ use Rattle.tables.specs.Tables.{Table, without}
 use Rattle.types.specs.declared.RawBunchHeader.{RawBunchHeader}
 use Rattle.types.specs.declared.PartialSequenceKind.{PartialSequenceKind}
 use Rattle.types.specs.Types.{reasonOf}
-use Rattle.packet.specs.declared.BunchFields.{BunchFields}
-use Rattle.packet.specs.Header.{Header, unreadable, readable, headerOf, fields}
-use Rattle.packet.specs.Sequences.{Numbered, numbered}
-use Rattle.packet.specs.Partials.{Partial, Tracked, tracking, effected, inFlight}
+use Rattle.header.specs.declared.BunchFields.{BunchFields}
+use Rattle.header.specs.Header.{Header, unreadable, readable, headerOf, fields}
+use Rattle.channels.specs.Sequences.{Numbered, numbered}
+use Rattle.channels.specs.Partials.{Partial, Tracked, tracking, effected, inFlight}
 
 -- the reader's two tables
 pub record Channels : Type 0 where

@@ -3,10 +3,10 @@ use Prim.Native.Nat.{ℕ, _+_}
 use mathlib.Core.Bool.{Bool}
 use mir.Val.{boolByte}
 use Rattle.bitio.specs.Parse.{value}
-use Rattle.packet.specs.declared.BunchFields.{BunchFields}
+use Rattle.header.specs.declared.BunchFields.{BunchFields}
 use Rattle.packet.specs.Packet.{Channels, Outcome, bunch, header, payload, whole, compared}
-use Rattle.packet.specs.Sequences.{numbered}
-use Rattle.packet.specs.Partials.{tracking}
+use Rattle.channels.specs.Sequences.{numbered}
+use Rattle.channels.specs.Partials.{tracking}
 use Rattle.packet.specs.Memory.{Memory, channelsOf}
 use Rattle.packet.specs.Answers.{Reply, reply}
 

@@ -8,20 +8,20 @@ ghost use Rattle.packet.specs.Packet as P;
 ghost use Rattle.packet.specs.Packet.{retires};
 ghost use Rattle.packet.specs.Memory.{Memory, memory, channelsOf};
 ghost use Rattle.packet.specs.Answers.{ofRead, reply};
-ghost use Rattle.packet.specs.Fits.{State};
+ghost use Rattle.packet.specs.State.{State};
 ghost use Rattle.packet.specs.Turns.{handedOut, stopping, settles, finishes};
 use crate::Bunch;
-use crate::BunchFields;
 use crate::BunchRead;
 use crate::Reader;
 use crate::inner::bunch;
-use crate::inner::header;
-use crate::inner::partials;
-use crate::inner::retire;
-use crate::inner::sequences::Numbered;
 use bitio::PacketBit;
 use bitio::Window;
 use bitio::WindowBit;
+use channels::inner::partials;
+use channels::inner::retire;
+use channels::inner::sequences::Numbered;
+use header::BunchFields;
+use header::inner;
 
 fn count(flag: bool) -> u32
     ensures { λ r. ⌜ r ≡ boolByte flag ⌝ }
@@ -208,7 +208,7 @@ pub fn read(
     if bits <= at {
         return end(bits, reader.sequences, reader.partials);
     }
-    let h = header::read_fields(
+    let h = inner::read_fields(
         packet,
         Window {
             start: PacketBit(0),

@@ -1,8 +1,8 @@
 -- A reliable bunch's sequence is `reliably`'s; any other leaves the table as it is.
 use mathlib.Core.Path.{sym, _∙_}
 use mathlib.Core.Bool.{false}
-use Rattle.packet.specs.Sequences.{numbered, unreliable}
-use Rattle.packet.proofs.Numbering.{same-sequences}
+use Rattle.channels.specs.Sequences.{numbered, unreliable}
+use Rattle.channels.proofs.Numbering.{same-sequences}
 use borrow.Author.Needs.{needs}
 use Rattle.packet.proofs.inner.bunch.number.Statement.{statement}
 use Rattle.packet.proofs.inner.bunch.number.Tie as tie

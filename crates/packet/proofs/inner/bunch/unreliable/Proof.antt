@@ -1,5 +1,5 @@
 -- Both ways of the test.
-use Rattle.packet.specs.Sequences.{unreliable}
+use Rattle.channels.specs.Sequences.{unreliable}
 use Rattle.packet.proofs.inner.bunch.unreliable.Statement.{statement}
 use Rattle.packet.proofs.inner.bunch.unreliable.Tie as tie
 

@@ -4,13 +4,13 @@ use mathlib.Core.Path.{_≡_, sym, ap, _∙_}
 use mathlib.Core.Bool.{false, cond}
 use native.Mathlib.Omega.{arith}
 use lib.ListN.{length}
-use Rattle.packet.specs.Header.{Header, unreadable, readable, headerOf, fields}
+use Rattle.header.specs.Header.{Header, unreadable, readable, headerOf, fields}
 use Rattle.packet.specs.Packet.{Read, dataBits, rest}
 use Rattle.packet.specs.Memory.{Memory, memory, channelsOf}
 use Rattle.packet.specs.Answers.{reply}
 use Rattle.packet.specs.Turns.{finishes}
 use Rattle.packet.proofs.Reading.{says-end, says-broken, empty, unmarked, at-end, unread, begun, read-on}
-use Rattle.packet.proofs.Within.{within}
+use Rattle.header.proofs.Within.{within}
 use Rattle.packet.proofs.Lasting.{state-of}
 use borrow.Author.Needs.{needs}
 use Rattle.packet.proofs.inner.read.read.Statement.{statement}

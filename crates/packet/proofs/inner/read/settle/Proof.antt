@@ -4,8 +4,9 @@ use mathlib.Core.Path.{_≡_, sym, _∙_}
 use native.Mathlib.Omega.{arith}
 use lib.ListN.{length}
 use Rattle.packet.specs.Memory.{memory}
-use Rattle.packet.specs.Fits.{Fits, Live, State}
-use Rattle.packet.proofs.Tracking.{lives, roomy}
+use Rattle.channels.specs.Fits.{Fits, Live}
+use Rattle.packet.specs.State.{State}
+use Rattle.channels.proofs.Tracking.{lives, roomy}
 use Rattle.packet.proofs.Turning.{tracked-fits, tracked-sizes, left-open, closed}
 use borrow.Author.Needs.{needs}
 use Rattle.packet.proofs.inner.read.settle.Statement.{statement}

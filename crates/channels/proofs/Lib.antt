@@ -1,0 +1,5 @@
+pub mod Numbering
+pub mod Tracking
+pub mod Effects
+pub mod Retiring
+pub mod Kept

@@ -1,0 +1,83 @@
+-- The partial tracker: `track_partial_bunch` of vrf-net/src/packet.rs, in its order.
+use Prim.Native.Nat.{ℕ}
+use mathlib.Core.Bool.{Bool, true, false, not, _&&_, _||_, cond}
+use lib.Dec.{eqb, leb}
+use lib.ListN.{length}
+use mir.Val.{boolByte}
+use Rattle.tables.specs.Tables.{Table, Found, none, found, get, put, without}
+use Rattle.header.specs.declared.BunchFields.{BunchFields}
+use Rattle.channels.specs.Sequences.{lastSequence, following}
+
+-- what is in flight on a channel: the last fragment's sequence, and a word that is 0 where it is not reliable
+abbrev pub Partial : Type 0
+Partial = ℕ × ℕ
+
+abbrev pub sequenceOf : Partial → ℕ
+sequenceOf p = p .0
+
+abbrev pub isReliable : Partial → Bool
+isReliable p = not (eqb (p .1) 0)
+
+-- "Continuing means previous + 1, or for unreliable also equal; reliability must agree."
+abbrev pub agree : Bool → Bool → Bool
+agree true b = b
+agree false b = not b
+
+unfoldable pub continues : Partial → Bool → ℕ → Bool
+continues p reliable sequence =
+    agree (isReliable p) reliable
+    && ((not (eqb (sequenceOf p) lastSequence) && eqb sequence (following (sequenceOf p))) || (not reliable && eqb sequence (sequenceOf p)))
+
+-- what becomes of the channel's state
+pub data Effect : Type 0 where
+  stays : Effect
+  puts : Effect
+  removed : Effect
+
+pub record Tracked : Type 0 where
+  pub effect : Effect
+  pub error : Bool
+  pub completed : Bool
+
+abbrev pub tracked : Effect → Bool → Bool → Tracked
+tracked e error completed = record { effect = e; error = error; completed = completed }
+
+-- An initial that is also final is whole, and nothing stays in flight; over a message in flight either is an error. One that is
+-- not final needs room in the table.
+abbrev pub initial : Bool → Bool → Found Partial → Tracked
+initial true full none = tracked removed false true
+initial true full (found p) = tracked removed true false
+initial false true none = tracked stays true false
+initial false false none = tracked puts false false
+initial false full (found p) = tracked puts true false
+
+-- A continuing fragment that has no initial leaves all as it is; one that doesn't follow ends the message.
+abbrev pub follows : Bool → Bool → Tracked
+follows false final = tracked removed true false
+follows true true = tracked removed false true
+follows true false = tracked puts false false
+
+abbrev pub continuing : Bool → Bool → ℕ → Found Partial → Tracked
+continuing final reliable sequence none = tracked stays true false
+continuing final reliable sequence (found p) = follows (continues p reliable sequence) final
+
+unfoldable pub judged : BunchFields → ℕ → Bool → Found Partial → Tracked
+judged f sequence full p =
+    cond (f .«b_partial_initial») (initial (f .«b_partial_final») full p) (continuing (f .«b_partial_final») (f .«b_reliable») sequence p)
+
+-- the state with which a fragment leaves its channel
+abbrev pub inFlight : BunchFields → ℕ → Partial
+inFlight f sequence = (sequence, boolByte (f .«b_reliable»))
+
+abbrev pub effected : Effect → ℕ → Partial → Table Partial → Table Partial
+effected stays c p t = t
+effected puts c p t = put c p t
+effected removed c p t = without c t
+
+abbrev pub fragment : ℕ → BunchFields → ℕ → Table Partial → Tracked
+fragment limit f sequence t = judged f sequence (leb limit (length t)) (get (f .«ch_index») t)
+
+-- "Tracking follows track_partial_bunch, skipped under the limit flag."
+unfoldable pub tracking : ℕ → BunchFields → ℕ → Bool → Table Partial → Tracked
+tracking limit f sequence limited t =
+    cond (f .«b_partial» && not limited) (fragment limit f sequence t) (tracked stays false false)

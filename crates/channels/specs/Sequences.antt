@@ -1,0 +1,41 @@
+-- The sequence of a bunch. Sequences and packet ids are held as words, the two's complement of 32 bits.
+use Prim.Native.Nat.{ℕ, _+_, _%_, _^_}
+use mathlib.Core.Bool.{Bool, true, false, cond}
+use lib.Dec.{eqb, leb}
+use lib.ListN.{length}
+use Rattle.tables.specs.Tables.{Table, Found, none, found, get, put}
+use Rattle.header.specs.declared.BunchFields.{BunchFields}
+
+-- "After 2,147,483,647"
+abbrev pub lastSequence : ℕ
+lastSequence = 2147483647
+
+unfoldable pub following : ℕ → ℕ
+following word = (word + 1) % 2 ^ 32
+
+pub record Numbered : Type 0 where
+  pub sequence : ℕ
+  pub limited : Bool
+  pub table : Table ℕ
+
+abbrev pub flagged : ℕ → Table ℕ → Numbered
+flagged word t = record { sequence = word; limited = true; table = t }
+
+abbrev pub stored : ℕ → ℕ → Table ℕ → Numbered
+stored c word t = record { sequence = word; limited = false; table = put c word t }
+
+-- "1 on a new channel, else previous + 1. After 2,147,483,647 the channel-limit flag is set and the previous number stays. A new
+-- reliable channel in a full table (limit 0 to 4,096) gets the flag and isn't stored."
+abbrev pub onward : ℕ → ℕ → Table ℕ → Found ℕ → Numbered
+onward limit c t none = cond (leb limit (length t)) (flagged 1 t) (stored c 1 t)
+onward limit c t (found previous) = cond (eqb previous lastSequence) (flagged previous t) (stored c (following previous) t)
+
+unfoldable pub reliably : ℕ → ℕ → Table ℕ → Numbered
+reliably limit c t = onward limit c t (get c t)
+
+-- "Unreliable partial: the packet id. Otherwise 0."
+unfoldable pub unreliable : BunchFields → ℕ → ℕ
+unreliable f id = cond (f .«b_partial») id 0
+
+unfoldable pub numbered : ℕ → ℕ → BunchFields → Table ℕ → Numbered
+numbered limit id f t = cond (f .«b_reliable») (reliably limit (f .«ch_index») t) (record { sequence = unreliable f id; limited = false; table = t })

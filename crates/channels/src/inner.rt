@@ -1,0 +1,4 @@
+// A table's edits, over columns that have been tested.
+pub mod partials;
+pub mod retire;
+pub mod sequences;

@@ -1,0 +1,68 @@
+// The sequence of a bunch: the middle of the Rust's `parse_bunch_header`, and what it stores at its end.
+ghost use mathlib.Core.Path.{_≡_};
+ghost use Prim.Native.Nat.{_≤_, _<_};
+ghost use lib.ListN.{length};
+ghost use Rattle.channels.specs.Sequences.{following, reliably, numbered};
+ghost use Rattle.channels.specs.Places.{sequencesAt, numberedIn, sequencesLaid};
+ghost use Rattle.channels.specs.Fits.{Fits};
+use tables::Slot;
+use tables::inner;
+
+pub struct Numbered {
+    pub sequence: u32,
+    pub limited: bool,
+    pub live: usize,
+}
+
+pub fn following(word: u32) -> u32
+    ensures { λ r. ⌜ r ≡ following word ⌝ }
+{
+    if word == 4294967295 { 0 } else { word + 1 }
+}
+
+pub fn reliably(
+    channels: &mut [u32],
+    numbers: &mut [u32],
+    live: usize,
+    limit: usize,
+    channel: u32,
+) -> Numbered
+    requires { ⌜ Fits limit live (now channels) × (limit ≤ length (now numbers)) ⌝ }
+    ensures { λ r. ⌜ numberedIn r (now (channels .exit)) (now (numbers .exit)) ≡ sequencesLaid (reliably limit channel (sequencesAt live (now (channels .entry)) (now (numbers .entry)))) (now (channels .entry)) (now (numbers .entry)) ⌝ }
+{
+    match inner::find(channels, live, channel) {
+        Slot::At(i) => {
+            let previous = numbers[i];
+            if previous == 2147483647 {
+                return Numbered {
+                    sequence: previous,
+                    limited: true,
+                    live,
+                };
+            }
+            let next = following(previous);
+            numbers[i] = next;
+            Numbered {
+                sequence: next,
+                limited: false,
+                live,
+            }
+        }
+        Slot::Free(i) => {
+            if limit <= live {
+                return Numbered {
+                    sequence: 1,
+                    limited: true,
+                    live,
+                };
+            }
+            inner::insert(channels, live, i, channel);
+            inner::insert(numbers, live, i, 1);
+            Numbered {
+                sequence: 1,
+                limited: false,
+                live: live + 1,
+            }
+        }
+    }
+}

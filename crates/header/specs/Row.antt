@@ -1,0 +1,29 @@
+-- A row of reads in code: where it stands, and what it took last. What the contracts of `inner` name; a reader of the public
+-- calls can pass over it.
+use Prim.Native.Nat.{ℕ}
+use mathlib.Core.Bool.{Bool, true, false, cond}
+use mathlib.Core.List.{List}
+use Rattle.bitio.specs.Parse.{Answer, got, refused, Parse}
+use Rattle.header.specs.declared.inner.Row.{Row}
+use Rattle.header.specs.declared.inner.FlagTaken.{FlagTaken}
+use Rattle.header.specs.declared.inner.NumberTaken.{NumberTaken}
+use Rattle.header.specs.declared.inner.HeaderRead.{HeaderRead}
+use Rattle.header.specs.Header.{Header, unreadable, readable}
+
+-- a value taken, and the row after it; a refusal stops the row, and takes the value that stands for none
+abbrev pub settled : {A : Type 0} → A → Answer A → A × Row
+settled without (got a u) = (a, record { stopped = false; at = u })
+settled without (refused e u) = (without, record { stopped = true; at = u })
+
+unfoldable pub taken : {A : Type 0} → A → Parse A → List ℕ → Row → A × Row
+taken without p d row = cond (row .stopped) (without, row) (settled without (p d (row .at)))
+
+abbrev pub flagOf : FlagTaken → Bool × Row
+flagOf t = (t .value, t .row)
+
+abbrev pub numberOf : NumberTaken → ℕ × Row
+numberOf t = (t .value, t .row)
+
+-- the header, where the row came to its end
+abbrev pub headerRead : HeaderRead → Header
+headerRead r = cond (r .stopped) unreadable (readable (r .fields) (r .position))
