@@ -12,7 +12,7 @@ use Rattle.bitio.specs.Parse.{Answer, got, refused, Parse, andThen, _>>=_, give
 use Rattle.bitio.specs.Reads.{packed}
 use Rattle.bitio.proofs.Rows.{not-refused}
 use Rattle.bitio.proofs.Keeps.{Stays, stays, left, Keeps, keeps-packed, keeps-serialized, packed-reads}
-use Rattle.field.specs.declared.Kind.{Kind}
+use Rattle.field.specs.declared.inner.Kind.{Kind}
 use Rattle.field.specs.Records.{Found, Looked, ends, abandons, finds, bitsLeft, remaining, payload, counted, repLayout, call, classNetCache, look}
 
 pub record On (n : ℕ) (w u : Window) : Type 0 where

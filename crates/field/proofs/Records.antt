@@ -1,14 +1,26 @@
 -- One record, by what its reads gave.
-use mathlib.Core.Path.{_≡_}
+use mathlib.Core.Path.{_≡_, sym, ap, _∙_}
 use mathlib.Core.List.{List}
 use Prim.Native.Nat.{ℕ, _+_, _-_, _≤_, _<_, max}
 use borrow.Author.Tests.{lt-ltb, le-ltb, le-leb, lt-leb, eq-eqb, ne-eqb}
 use Rattle.bitio.specs.declared.Window.{Window}
-use Rattle.bitio.specs.Refusals.{Refusal}
-use Rattle.bitio.specs.Parse.{got, refused, _>>=_, give, readIf, advanced}
+use Rattle.bitio.specs.declared.BitError.{BitError}
+use Rattle.bitio.specs.declared.U32.{U32}
+use Rattle.bitio.specs.declared.U32Read.{U32Read}
+use Rattle.bitio.specs.Refusals.{Refusal, paper}
+use Rattle.bitio.specs.Answers.{u32Answer, ofU32}
+use Rattle.bitio.specs.Parse.{Answer, got, refused, _>>=_, give, readIf, advanced}
 use Rattle.bitio.specs.Reads.{packed, serialized}
 use Rattle.bitio.proofs.Rows.{then-refused}
 use Rattle.field.specs.Records.{ends, abandons, finds, remaining, payload, counted, repLayout, call, classNetCache}
+
+-- a number's read, by the case that the match found
+module _ (r : U32Read) {x : Answer ℕ} (e : ofU32 r ≡ x) where
+  pub told-value : {v : ℕ} → r .answer ≡ U32.Value v → x ≡ got v (r .next)
+  told-value h = sym e ∙ ap (λ (a : U32). u32Answer a (r .next)) h
+
+  pub told-refusal : {f : BitError} → r .answer ≡ U32.Refused f → x ≡ refused (paper f) (r .next)
+  told-refusal h = sym e ∙ ap (λ (a : U32). u32Answer a (r .next)) h
 
 module _ (d : List ℕ) (w : Window) {u : Window} where
   module _ (h : ℕ) where

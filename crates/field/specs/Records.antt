@@ -6,9 +6,9 @@ use Rattle.bitio.specs.declared.Window.{Window}
 use Rattle.bitio.specs.Refusals.{paper}
 use Rattle.bitio.specs.Parse.{Answer, got, refused, Parse, _>>=_, readIf, advanced}
 use Rattle.bitio.specs.Reads.{packed, serialized}
-use Rattle.field.specs.declared.Kind.{Kind}
-use Rattle.field.specs.declared.Step.{Step}
-use Rattle.field.specs.declared.StepRead.{StepRead}
+use Rattle.field.specs.declared.inner.Kind.{Kind}
+use Rattle.field.specs.declared.inner.Step.{Step}
+use Rattle.field.specs.declared.inner.StepRead.{StepRead}
 
 -- "A record holds its handle, its bit count and its payload's start, counted both ways."
 pub record Found : Type 0 where

@@ -8,12 +8,10 @@ ghost use Rattle.bitio.specs.Refusals.{placeOf};
 ghost use Rattle.field.specs.Walks.{abandoned, atEnd, listFull, walked};
 ghost use Rattle.field.specs.Answers.{stopAnswer, ofWalk};
 use crate::FieldError;
-use crate::Kind;
 use crate::Record;
-use crate::Step;
-use crate::StepRead;
 use crate::Stop;
 use crate::Walk;
+use bitio::BitError;
 use bitio::PacketBit;
 use bitio::U32;
 use bitio::Window;
@@ -21,21 +19,52 @@ use bitio::WindowBit;
 use bitio::inner;
 use bitio::windows;
 
+// Which records a walk reads: the class net cache's with its function count.
+pub enum Kind {
+    RepLayout,
+    ClassNetCache(u32),
+}
+
+// What stands where a record is looked for.
+pub enum Step {
+    Ends,
+    Abandons,
+    Found {
+        handle: u32,
+        bits: u32,
+        in_window: WindowBit,
+        in_packet: PacketBit,
+    },
+    Refused(BitError),
+}
+
+pub struct StepRead {
+    pub answer: Step,
+    pub next: Window,
+}
+
+// The window with its reader at its end.
+pub fn at_end(w: Window) -> Window
+    ensures { λ r. ⌜ r ≡ atEnd w ⌝ }
+{
+    let start = w.start;
+    Window {
+        start,
+        position: WindowBit(w.length),
+        length: w.length,
+    }
+}
+
 // Named cases of a walk's end, so that the loop below reads as a list of them.
 fn abandon(at: Window, count: u64, next: Window) -> Walk
     requires { ⌜ at .position .0 ≤ at .length ⌝ }
     ensures { λ r. ⌜ (r .count ≡ count) × (stopAnswer (r .stop) (r .next) ≡ got (abandoned (bitsLeft at)) (atEnd next)) ⌝ }
 {
     let position = at.position;
-    let start = next.start;
     Walk {
         stop: Stop::Abandoned(at.length - position.0),
         count,
-        next: Window {
-            start,
-            position: WindowBit(next.length),
-            length: next.length,
-        },
+        next: at_end(next),
     }
 }
 

@@ -1,9 +1,7 @@
 // The two record walks, on lists of numbers: vrf-net/src/field.rs without its sink.
 use bitio::BitError;
-use bitio::PacketBit;
 use bitio::Place;
 use bitio::Window;
-use bitio::WindowBit;
 
 pub mod inner;
 pub mod walks;
@@ -11,30 +9,6 @@ pub mod walks;
 // A record's place in a lent list: its handle, its bit count, and its payload's start, counted from the window's first bit and
 // from the packet's.
 pub type Record = [u64; 4];
-
-// Which records a walk reads: the class net cache's with its function count.
-pub enum Kind {
-    RepLayout,
-    ClassNetCache(u32),
-}
-
-// What stands where a record is looked for.
-pub enum Step {
-    Ends,
-    Abandons,
-    Found {
-        handle: u32,
-        bits: u32,
-        in_window: WindowBit,
-        in_packet: PacketBit,
-    },
-    Refused(BitError),
-}
-
-pub struct StepRead {
-    pub answer: Step,
-    pub next: Window,
-}
 
 // Why a walk refused.
 pub enum FieldError {

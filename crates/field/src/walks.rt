@@ -5,15 +5,14 @@ ghost use Rattle.bitio.specs.Parse.{refused};
 ghost use Rattle.field.specs.Walks.{parseRepLayout, parseClassNetCache, settled};
 ghost use Rattle.field.specs.Answers.{fieldPaper, stopAnswer, ofWalk};
 use crate::FieldError;
-use crate::Kind;
 use crate::Record;
 use crate::Stop;
 use crate::Walk;
 use crate::inner;
+use crate::inner::Kind;
 use bitio::Bit;
 use bitio::Done;
 use bitio::Window;
-use bitio::WindowBit;
 use bitio::reads;
 use bitio::windows;
 
@@ -31,7 +30,6 @@ fn refused(e: FieldError, next: Window) -> Walk
 fn ended(w: Window, count: u64, retain: bool) -> Walk
     ensures { λ r. ⌜ (r .count ≡ count) × (stopAnswer (r .stop) (r .next) ≡ settled retain (stopAnswer (Stop.Ended) w)) ⌝ }
 {
-    let start = w.start;
     let position = w.position;
     if w.length <= position.0 {
         return Walk {
@@ -51,11 +49,7 @@ fn ended(w: Window, count: u64, retain: bool) -> Walk
     Walk {
         stop,
         count,
-        next: Window {
-            start,
-            position: WindowBit(w.length),
-            length: w.length,
-        },
+        next: inner::at_end(w),
     }
 }
 

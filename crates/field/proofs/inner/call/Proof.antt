@@ -1,8 +1,6 @@
 -- Each way out is one law of Records, at what the handle's read gave.
-use mathlib.Core.Path.{ap, sym, _∙_}
-use Rattle.bitio.specs.declared.U32.{U32}
-use Rattle.bitio.specs.Answers.{u32Answer}
-use Rattle.field.proofs.Records.{call-refused, call-abandons, call-goes-on}
+use mathlib.Core.Path.{sym, _∙_}
+use Rattle.field.proofs.Records.{told-value, told-refusal, call-refused, call-abandons, call-goes-on}
 use borrow.Author.Needs.{needs}
 use Rattle.field.proofs.inner.call.Statement.{statement}
 use Rattle.field.proofs.inner.call.Tie as tie
@@ -10,17 +8,17 @@ use Rattle.field.proofs.inner.call.Tie as tie
 returns : tie.Need-returns
 returns c =
     let a = c .before .before .before .before .before .before .before .before .before .before .args in
-    (sym (call-abandons (a .bytes .now) (a .w) (a .max) (sym (c .before .before .before .before .before .before .before .before .serialized .ensures .0) ∙ ap (λ (x : U32). u32Answer x (c .before .before .before .before .before .before .before .before .serialized .result .next)) (c .before .before .before .before .before .answer2 .given .1)) (c .if1 .taken)), c .before .before .before .before .before .before .before .before .serialized .ensures .1)
+    (sym (call-abandons (a .bytes .now) (a .w) (a .max) (told-value (c .before .before .before .before .before .before .before .before .serialized .result) (c .before .before .before .before .before .before .before .before .serialized .ensures .0) (c .before .before .before .before .before .answer2 .given .1)) (c .if1 .taken)), c .before .before .before .before .before .before .before .before .serialized .ensures .1)
 
 returns-2 : tie.Need-returns-2
 returns-2 c =
     let a = c .before .before .before .before .before .before .args in
-    (sym (call-refused (a .bytes .now) (a .w) (a .max) (sym (c .before .before .before .before .serialized .ensures .0) ∙ ap (λ (x : U32). u32Answer x (c .before .before .before .before .serialized .result .next)) (c .before .answer .given .1))), c .before .before .before .before .serialized .ensures .1)
+    (sym (call-refused (a .bytes .now) (a .w) (a .max) (told-refusal (c .before .before .before .before .serialized .result) (c .before .before .before .before .serialized .ensures .0) (c .before .answer .given .1))), c .before .before .before .before .serialized .ensures .1)
 
 returns-3 : tie.Need-returns-3
 returns-3 c =
     let a = c .before .before .before .before .before .before .before .before .before .before .before .args in
-    (c .counted .ensures .0 ∙ sym (call-goes-on (a .bytes .now) (a .w) (a .max) (sym (c .before .before .before .before .before .before .before .before .before .serialized .ensures .0) ∙ ap (λ (x : U32). u32Answer x (c .before .before .before .before .before .before .before .before .before .serialized .result .next)) (c .before .before .before .before .before .before .answer2 .given .1)) (c .before .if1 .left)), c .counted .ensures .1)
+    (c .counted .ensures .0 ∙ sym (call-goes-on (a .bytes .now) (a .w) (a .max) (told-value (c .before .before .before .before .before .before .before .before .before .serialized .result) (c .before .before .before .before .before .before .before .before .before .serialized .ensures .0) (c .before .before .before .before .before .before .answer2 .given .1)) (c .before .if1 .left)), c .counted .ensures .1)
 
 pub call-spec : {M : Type 1} → statement M
 call-spec = tie.close (tie.spec (λ c κs. search needs) (λ c. search needs) (λ c. search needs) (λ c. search needs) returns (λ c κs. search needs) returns-2 returns-3)

@@ -1,8 +1,6 @@
 -- Each way out is one law of Records, at what the handle's read gave.
-use mathlib.Core.Path.{ap, sym, _∙_}
-use Rattle.bitio.specs.declared.U32.{U32}
-use Rattle.bitio.specs.Answers.{u32Answer}
-use Rattle.field.proofs.Records.{rep-refused, rep-ends, rep-goes-on}
+use mathlib.Core.Path.{sym, _∙_}
+use Rattle.field.proofs.Records.{told-value, told-refusal, rep-refused, rep-ends, rep-goes-on}
 use borrow.Author.Needs.{needs}
 use Rattle.field.proofs.inner.rep_layout.Statement.{statement}
 use Rattle.field.proofs.inner.rep_layout.Tie as tie
@@ -10,17 +8,17 @@ use Rattle.field.proofs.inner.rep_layout.Tie as tie
 returns : tie.Need-returns
 returns c =
     let a = c .before .before .before .before .before .before .before .args in
-    (sym (rep-ends (a .bytes .now) (a .w) (sym (c .before .before .before .before .before .packed .ensures .0) ∙ ap (λ (x : U32). u32Answer x (c .before .before .before .before .before .packed .result .next)) (c .before .before .answer2 .given .1)) (c .if1 .taken)), c .before .before .before .before .before .packed .ensures .1)
+    (sym (rep-ends (a .bytes .now) (a .w) (told-value (c .before .before .before .before .before .packed .result) (c .before .before .before .before .before .packed .ensures .0) (c .before .before .answer2 .given .1)) (c .if1 .taken)), c .before .before .before .before .before .packed .ensures .1)
 
 returns-2 : tie.Need-returns-2
 returns-2 c =
     let a = c .before .before .before .before .before .before .args in
-    (sym (rep-refused (a .bytes .now) (a .w) (sym (c .before .before .before .before .packed .ensures .0) ∙ ap (λ (x : U32). u32Answer x (c .before .before .before .before .packed .result .next)) (c .before .answer .given .1))), c .before .before .before .before .packed .ensures .1)
+    (sym (rep-refused (a .bytes .now) (a .w) (told-refusal (c .before .before .before .before .packed .result) (c .before .before .before .before .packed .ensures .0) (c .before .answer .given .1))), c .before .before .before .before .packed .ensures .1)
 
 returns-3 : tie.Need-returns-3
 returns-3 c =
     let a = c .before .before .before .before .before .before .before .before .args in
-    (c .counted .ensures .0 ∙ sym (rep-goes-on (a .bytes .now) (a .w) (sym (c .before .before .before .before .before .before .packed .ensures .0) ∙ ap (λ (x : U32). u32Answer x (c .before .before .before .before .before .before .packed .result .next)) (c .before .before .before .answer2 .given .1)) (c .before .if1 .left)), c .counted .ensures .1)
+    (c .counted .ensures .0 ∙ sym (rep-goes-on (a .bytes .now) (a .w) (told-value (c .before .before .before .before .before .before .packed .result) (c .before .before .before .before .before .before .packed .ensures .0) (c .before .before .before .answer2 .given .1)) (c .before .if1 .left)), c .counted .ensures .1)
 
 pub rep-layout-spec : {M : Type 1} → statement M
 rep-layout-spec = tie.close (tie.spec (λ c κs. search needs) (λ c. search needs) (λ c. search needs) returns (λ c. search needs) (λ c κs. search needs) returns-2 returns-3)

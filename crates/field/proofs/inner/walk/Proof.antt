@@ -1,7 +1,7 @@
 -- `Going` holds at each record; the ways out are one law of Going.
 use mathlib.Core.Path.{refl, ap, sym, _∙_}
 use borrow.Author.Needs.{needs}
-use Rattle.field.specs.declared.Step.{Step}
+use Rattle.field.specs.declared.inner.Step.{Step}
 use Rattle.field.specs.Records.{lookedAt, look, bitsLeft}
 use Rattle.field.proofs.Moves.{moves-look}
 use Rattle.field.proofs.Going.{Going, on-less, begins, stops, stops-full, goes-on}
