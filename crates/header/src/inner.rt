@@ -14,8 +14,11 @@ use bitio::U32;
 use bitio::U32Read;
 use bitio::Window;
 use bitio::inner;
+use bitio::inner::words;
 use types::CHANNEL_CLOSE_REASON_MAX;
 use types::MAX_PACKET_SIZE_BITS;
+
+pub mod quick;
 
 // Where a row of reads stands, and whether one of them was refused.
 pub struct Row {
@@ -114,8 +117,8 @@ pub struct HeaderRead {
     pub position: u64,
 }
 
-// The Rust's `parse_bunch_header` without what it looks up.
-pub fn read_fields(bytes: &[u8], w: Window) -> HeaderRead
+// Read by read: what a header comes to that one word doesn't hold.
+fn read_row(bytes: &[u8], w: Window) -> HeaderRead
     requires { ⌜ Sound (now bytes) w ⌝ }
     ensures { λ r. ⌜ headerRead r ≡ headerOf (fields (now (bytes .entry)) w) ⌝ }
 {
@@ -161,4 +164,25 @@ pub fn read_fields(bytes: &[u8], w: Window) -> HeaderRead
         },
         position: position.0,
     }
+}
+
+// The Rust's `parse_bunch_header` without what it looks up. Most headers are fields of one word.
+pub fn read_fields(bytes: &[u8], w: Window) -> HeaderRead
+    requires { ⌜ Sound (now bytes) w ⌝ }
+    ensures { λ r. ⌜ headerRead r ≡ headerOf (fields (now (bytes .entry)) w) ⌝ }
+{
+    let start = w.start;
+    let position = w.position;
+    let left = w.length - position.0;
+    let quick = quick::fields_of(words::peek(bytes, start.0 + position.0));
+    let rest = quick.rest;
+    if (rest.used <= 57) & (rest.used <= left) {
+        let fields = quick.fields;
+        return HeaderRead {
+            stopped: false,
+            fields,
+            position: position.0 + rest.used,
+        };
+    }
+    read_row(bytes, w)
 }

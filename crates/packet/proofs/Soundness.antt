@@ -1,21 +1,16 @@
 -- What the test of the lent tables shows.
 use Prim.Native.Nat.{ℕ, _≤_}
-use mathlib.Core.Path.{_≡_, refl, sym, _∙_}
-use mathlib.Core.Bool.{Bool, true, false, _&&_, true≢false}
-use mathlib.Core.List.{List}
-use native.Mathlib.Omega.{arith}
+use mathlib.Core.Path.{_≡_}
+use mathlib.Core.Bool.{true, _&&_}
 use lib.Dec.{leb}
 use lib.ListN.{length, take}
 use borrow.Author.Tests.{leb-true}
 use Rattle.tables.specs.Columns.{ascending}
+use Rattle.tables.proofs.Ascending.{both}
 use Rattle.types.specs.Types.{mostChannels}
 use Rattle.packet.specs.Memory.{Memory, fitting, fit, sound}
 use Rattle.channels.specs.Fits.{Fits}
 use Rattle.packet.specs.State.{State}
-
-both : (a b : Bool) → (a && b) ≡ true → (a ≡ true) × (b ≡ true)
-both true b h = (refl, h)
-both false b h = absurd (true≢false (sym h))
 
 pub record Rooms (limit a b c d e : ℕ) : Type 0 where
   pub few : limit ≤ mostChannels

@@ -1,53 +1,29 @@
--- A line for each read of the row: it is one step of `fields`.
-use mathlib.Core.Path.{sym, _∙_}
-use mathlib.Core.Bool.{false}
-use Rattle.header.specs.Header.{fields}
-use Rattle.header.proofs.Rows.{begins, step, step-on, ends}
+-- Where the bits used were there the word's fields are the header's; else the row reads it.
+use native.Mathlib.Omega.{arith}
 use borrow.Author.Needs.{needs}
+use Rattle.header.specs.Header.{fields}
+use Rattle.header.specs.Word.{Within}
+use Rattle.header.proofs.Words.{tested, header-reads}
 use Rattle.header.proofs.inner.read_fields.Statement.{statement}
 use Rattle.header.proofs.inner.read_fields.Tie as tie
 
+there : (c : tie.Then1) → Within (c .before .before .before .before .before .before .before .before .before .before .before .before .before .args .w) (c .before .before .before .before .fields-of .result .rest .used)
+there c = tested (c .before .before .before .before .before .before .before .before .before .before .before .before .before .args .w) _ (c .if1 .taken)
+
 returns : tie.Need-returns
-unfolding fields
 returns c =
-    let d = c .before .before .before .before .before .before .before .before .before .before .before .before .before .before .before .before .before .before .before .before .before .before .args .bytes .now in
-    sym (begins fields d (c .before .before .before .before .before .before .before .before .before .before .before .before .before .before .before .before .before .before .before .before .before .before .args .w)
-    ∙ step-on false d _ _ _ (c .before .before .before .before .before .before .before .before .before .before .before .before .before .before .before .before .before .before .before .before .flag .ensures .0)
-    ∙ step false d _ _ _ (c .before .before .before .before .before .before .before .before .before .before .before .before .before .before .before .before .before .before .before .flag2 .ensures .0)
-    ∙ step false d _ _ _ (c .before .before .before .before .before .before .before .before .before .before .before .before .before .before .before .before .before .before .flag3 .ensures .0)
-    ∙ step 0 d _ _ _ (c .before .before .before .before .before .before .before .before .before .before .before .before .before .before .before .before .before .serialized .ensures .0)
-    ∙ step-on false d _ _ _ (c .before .before .before .before .before .before .before .before .before .before .before .before .before .before .before .before .flag4 .ensures .0)
-    ∙ step-on false d _ _ _ (c .before .before .before .before .before .before .before .before .before .before .before .before .before .before .before .flag5 .ensures .0)
-    ∙ step-on 0 d _ _ _ (c .before .before .before .before .before .before .before .before .before .before .before .before .before .before .packed .ensures .0)
-    ∙ step-on false d _ _ _ (c .before .before .before .before .before .before .before .before .before .before .before .before .before .flag6 .ensures .0)
-    ∙ step-on false d _ _ _ (c .before .before .before .before .before .before .before .before .before .before .before .before .flag7 .ensures .0)
-    ∙ step-on false d _ _ _ (c .before .before .before .before .before .before .before .before .before .before .before .flag8 .ensures .0)
-    ∙ step-on false d _ _ _ (c .before .before .before .before .before .before .before .before .before .before .flag9 .ensures .0)
-    ∙ step false d _ _ _ (c .before .before .before .before .before .before .before .before .before .flag10 .ensures .0)
-    ∙ step false d _ _ _ (c .before .before .before .before .before .before .before .before .flag11 .ensures .0)
-    ∙ step false d _ _ _ (c .before .before .before .before .before .flag12 .ensures .0)
-    ∙ step 0 d _ _ _ (c .before .before .before .before .packed2 .ensures .0)
-    ∙ step-on 0 d _ _ _ (c .before .before .before .serialized2 .ensures .0)
-    ∙ ends _ d _)
+    let a = c .before .before .before .before .before .before .before .before .before .before .before .before .before .before .before .before .args in
+    header-reads (a .bytes .now) (a .w) fields (c .before .before .before .before .before .before .before .before .peek .ensures) (c .before .before .before .before .before .before .before .fields-of .ensures) (there (c .before .before .before))
 
 pub read-fields-spec : {M : Type 1} → statement M
 read-fields-spec =
     tie.close
     (tie.spec
+    (λ c. search needs)
+    (λ c. search needs)
     (λ c κs. search needs)
     (λ c κs. search needs)
+    (λ c. omega (arith, there (c .before .before .before) .in-word, there (c .before .before .before) .in-window))
+    returns
     (λ c κs. search needs)
-    (λ c κs. search needs)
-    (λ c κs. search needs)
-    (λ c κs. search needs)
-    (λ c κs. search needs)
-    (λ c κs. search needs)
-    (λ c κs. search needs)
-    (λ c κs. search needs)
-    (λ c κs. search needs)
-    (λ c κs. search needs)
-    (λ c κs. search needs)
-    (λ c κs. search needs)
-    (λ c κs. search needs)
-    (λ c κs. search needs)
-    returns)
+    (λ c. search needs))
