@@ -1,12 +1,18 @@
 // The C functions of our static library, as the driver and the timing program call them.
 //
-// A window is start, position, length. Every `out` has 7 words: 0 or the refusal's number, three words of the value or
+// A window is start, position, length. An `Out` has 7 words: 0 or the refusal's number, three words of the value or
 // of the refusal, and the window afterwards. Nothing checks these lines against the library's source.
 
 pub type Out = [u64; 7];
 
 /// A walk's: the seven, then how many records were written.
 pub type WalkOut = [u64; 8];
+
+/// A packet reader's opening: 0 or the refusal's number, the limit, and the live places of both tables.
+pub type ReaderOut = [u64; 4];
+
+/// A reading call's (crates/exports/specs/Packets.antt).
+pub type BunchOut = [u64; 34];
 
 macro_rules! reads {
     ($out:ty; $($name:ident($($argument:ident: $kind:ty),*);)*) => {
@@ -26,6 +32,18 @@ unsafe extern "C" {
     pub fn gritwheel_bits_remaining(start: u64, position: u64, length: u64, out: *mut Out);
     // A bool, declared as its byte so that one which is neither 0 nor 1 is seen as a difference.
     pub fn gritwheel_at_end(start: u64, position: u64, length: u64) -> u8;
+    #[rustfmt::skip]
+    pub fn gritwheel_with_max_channels(
+        max_channels: usize, sequence_channels: *const u32, i: usize, sequence_numbers: *const u32, j: usize,
+        partial_channels: *const u32, k: usize, partial_sequences: *const u32, l: usize, partial_reliables: *const u32, m: usize,
+        out: *mut ReaderOut,
+    );
+    #[rustfmt::skip]
+    pub fn gritwheel_read_bunch(
+        packet: *const u8, n: usize, packet_id: i32, at: u64, max_channels: usize, sequences: usize, partials: usize,
+        sequence_channels: *mut u32, i: usize, sequence_numbers: *mut u32, j: usize, partial_channels: *mut u32, k: usize,
+        partial_sequences: *mut u32, l: usize, partial_reliables: *mut u32, m: usize, out: *mut BunchOut,
+    );
 }
 
 reads! {

@@ -59,6 +59,11 @@ impl<C: Case> Comparing<C> {
             return;
         }
         self.turn = self.share - 1;
+        self.compared(case);
+    }
+
+    /// Compares in any case, and gives the answer.
+    pub fn compared(&mut self, case: &C) -> &C::Answer {
         if self.differs(case) {
             self.report(case);
         }
@@ -67,6 +72,7 @@ impl<C: Case> Comparing<C> {
             self.counts.resize(call + 1, [0; OUTCOMES]);
         }
         self.counts[call][C::outcome(&self.expected)] += 1;
+        &self.expected
     }
 
     fn differs(&mut self, case: &C) -> bool {

@@ -16,6 +16,7 @@ mod field;
 mod lent;
 #[cfg(not(ours))]
 mod line;
+mod packet;
 mod random;
 mod shrink;
 mod text;
@@ -50,12 +51,14 @@ fn run(given: &Given) {
     compare::watch_for_crashes();
     bitio::inputs::Inputs::new(given.seed, given.share, given.long).run();
     field::inputs::Inputs::new(given.seed, given.share, given.long).run();
+    packet::inputs::Inputs::new(given.seed, given.share, given.long).run();
 }
 
 #[cfg(not(ours))]
 fn run(given: &Given) {
     bitio::records::print(given.record);
     field::records::print(given.record * 2 / 5);
+    packet::records::print(given.record / 2);
 }
 
 fn main() {

@@ -1,0 +1,99 @@
+// Our answers: the C functions called with the same input, and the memory that they must leave alone looked at.
+
+use super::expected::expected;
+use super::{Answer, Call, Case, Words, shown};
+use crate::abi::*;
+use crate::compare;
+use crate::lent::{PATTERN, UNWRITTEN, changed, lent};
+
+/// A place before and after each lent column, to see writes past it.
+const GUARD: u32 = u32::from_ne_bytes([PATTERN; 4]);
+
+fn opened(case: &Case, columns: &mut [Vec<u32>; 5], words: &mut Words) {
+    let [a, b, c, d, e] = columns.each_ref().map(|column| column[1..].as_ptr());
+    let [i, j, k, l, m] = case.columns.each_ref().map(Vec::len);
+    let mut out = [UNWRITTEN; 4];
+    unsafe { gritwheel_with_max_channels(case.limit, a, i, b, j, c, k, d, l, e, m, &mut out) };
+    *words = [0; 34];
+    words[..4].copy_from_slice(&out);
+}
+
+fn read(case: &Case, packet: &[u8], columns: &mut [Vec<u32>; 5], words: &mut Words) {
+    let [a, b, c, d, e] = columns.each_mut().map(|column| column[1..].as_mut_ptr());
+    let [i, j, k, l, m] = case.columns.each_ref().map(Vec::len);
+    let (bytes, n) = (packet.as_ptr(), packet.len());
+    let [sequences, partials] = case.live;
+    *words = [UNWRITTEN; 34];
+    unsafe {
+        gritwheel_read_bunch(
+            bytes, n, case.id, case.at, case.limit, sequences, partials, a, i, b, j, c, k, d, l, e, m, words,
+        );
+    }
+}
+
+impl compare::Case for Case {
+    type Answer = Answer;
+
+    fn expected(&self, answer: &mut Answer) {
+        expected(self, answer);
+    }
+
+    fn ours(&self, answer: &mut Answer, room: &mut Vec<u8>) {
+        let Answer { words, columns, damage } = answer;
+        let packet = lent(&self.packet, room);
+        for (column, before) in columns.iter_mut().zip(&self.columns) {
+            column.clear();
+            column.push(GUARD);
+            column.extend_from_slice(before);
+            column.push(GUARD);
+        }
+        match self.call {
+            Call::WithMaxChannels => opened(self, columns, words),
+            Call::ReadBunch => read(self, packet, columns, words),
+        }
+        *damage = changed(packet, &self.packet);
+        for column in columns {
+            if column.pop() != Some(GUARD) || column.first() != Some(&GUARD) {
+                *damage = Some("memory around a column");
+            }
+            column.remove(0);
+        }
+    }
+
+    fn call(&self) -> usize {
+        self.call as usize
+    }
+
+    /// A refusal's number, or 20 and the case.
+    fn outcome(answer: &Answer) -> usize {
+        match answer.words[0] {
+            0 => 20 + answer.words[3] as usize,
+            number => number as usize,
+        }
+    }
+
+    fn outcome_name(outcome: usize) -> String {
+        match outcome {
+            20 => "bunch or opened".into(),
+            21 => "end".into(),
+            22 => "malformed".into(),
+            number => format!("refusal {number}"),
+        }
+    }
+
+    fn simpler(&self) -> Vec<Self> {
+        shown::simpler(self)
+    }
+
+    fn input_in_words(&self) -> String {
+        shown::input(self)
+    }
+
+    fn answer_in_words(&self, answer: &Answer) -> String {
+        shown::answer(answer)
+    }
+
+    fn name(call: usize) -> &'static str {
+        if call == Call::ReadBunch as usize { "read_bunch" } else { "with_max_channels" }
+    }
+}
