@@ -1,0 +1,5 @@
+pub mod Sliding
+pub mod Going
+pub mod Gains
+pub mod Moving
+pub mod Telling

@@ -1,0 +1,15 @@
+-- By the law: the list itself is too long to compute.
+use mathlib.Core.Path.{sym}
+use Prim.Native.Nat.{ℕ}
+use lib.ListN.{length-replicate}
+use Rattle.listing.proofs.output_room.Statement.{statement}
+use Rattle.listing.proofs.output_room.Tie as tie
+use Rattle.listing.proofs.output_room.Reads as reads
+use Rattle.listing.proofs.output_room.Lts as lts
+
+-- src/main.rt:18:1
+returns : tie.Need-returns
+returns c = sym (length-replicate {0} {A = ℕ} 2097152 0)
+
+pub output-room-spec : {M : Type 1} → statement M
+output-room-spec = tie.close (tie.spec returns)

@@ -1,0 +1,172 @@
+-- `Going` holds at each turn; the measure is the turns that are left.
+use mathlib.Core.Path.{refl, sym, _∙_}
+use native.Mathlib.Omega.{arith}
+use lib.ListN.{length-take}
+use Rattle.packet.specs.Memory.{memory}
+use Rattle.listing.proofs.Telling.{same-sizes}
+use Rattle.listing.proofs.Going.{Going, lies}
+use borrow.Author.Needs.{needs}
+use Rattle.listing.proofs.run.records.Statement.{statement}
+use Rattle.listing.proofs.run.records.Tie as tie
+use Rattle.listing.proofs.run.records.Reads as reads
+use Rattle.listing.proofs.run.records.Lts as lts
+use Rattle.listing.proofs.input.refill.Reads as refill-reads
+use Rattle.listing.proofs.output.with_room.Reads as with-room-reads
+use Rattle.listing.proofs.packets.tell.Reads as tell-reads
+use Rattle.listing.proofs.run.finish.Reads as finish-reads
+use Rattle.listing.proofs.run.record_at.Reads as record-at-reads
+
+abbrev Inv-loop : tie.InvT-loop
+Inv-loop buffer₀ out₀ sequence-channels₀ sequence-numbers₀ partial-channels₀ partial-sequences₀ partial-reliables₀ part₀ at₀ used₀ sequences₀ partials₀ turns₀ buffer out sequence-channels sequence-numbers partial-channels partial-sequences partial-reliables part at used sequences partials turns =
+    Going buffer₀ out₀ buffer out part at used (memory sequence-channels₀ sequence-numbers₀ partial-channels₀ partial-sequences₀ partial-reliables₀) (memory sequence-channels sequence-numbers partial-channels partial-sequences partial-reliables) sequences partials
+
+abbrev μ-loop : tie.MeasureT-loop
+μ-loop buffer₀ out₀ sequence-channels₀ sequence-numbers₀ partial-channels₀ partial-sequences₀ partial-reliables₀ part₀ at₀ used₀ sequences₀ partials₀ turns₀ buffer out sequence-channels sequence-numbers partial-channels partial-sequences partial-reliables part at used sequences partials turns =
+    turns
+
+loop-holds : tie.Need-loop-holds Inv-loop μ-loop
+loop-holds c = let p = c .before .before .before .before .before .before .before .pre in record { held = p .0; place = p .1; room = p .2; in-size = refl; out-size = refl; sizes = same-sizes _; state = p .3 }
+
+slice-aggregate-record-at : tie.Need-slice-aggregate-record-at Inv-loop μ-loop
+slice-aggregate-record-at c = simp length-take (omega (arith, c .before .before .loop .inv .held .inside))
+
+sub-tell : tie.Need-sub-tell Inv-loop μ-loop
+sub-tell c = (lies (c .before .before .before .before .before .before .loop .buffer) (c .before .before .before .before .before .before .loop .part .held) (c .before .before .before .before .before .before .loop .at) (c .before .before .before .before .before .before .loop .inv .held .inside) (sym (c .before .before .before .record-at .ensures .0) ∙ c .before .found .given .1)) .long
+
+part-tell-start : tie.Need-part-tell-start Inv-loop μ-loop
+part-tell-start c = (lies (c .before .before .before .before .before .before .before .loop .buffer) (c .before .before .before .before .before .before .before .loop .part .held) (c .before .before .before .before .before .before .before .loop .at) (c .before .before .before .before .before .before .before .loop .inv .held .inside) (sym (c .before .before .before .before .record-at .ensures .0) ∙ c .before .before .found .given .1)) .long
+
+part-tell-end : tie.Need-part-tell-end Inv-loop μ-loop
+part-tell-end c = omega (arith, (lies (c .before .before .before .before .before .before .before .loop .buffer) (c .before .before .before .before .before .before .before .loop .part .held) (c .before .before .before .before .before .before .before .loop .at) (c .before .before .before .before .before .before .before .loop .inv .held .inside) (sym (c .before .before .before .before .record-at .ensures .0) ∙ c .before .before .found .given .1)) .inside, c .before .before .before .before .before .before .before .loop .inv .held .inside)
+
+tell-requires : tie.Need-tell-requires Inv-loop μ-loop
+tell-requires c κs =
+    let i = c .before .before .before .before .before .before .before .before .before .before .before .before .before .before .loop .inv in
+    let s = c .before .before .before .before .before .before .before .before .before .before .before .record-at .ensures .1 .short (c .before .before .before .before .before .before .before .before .before .found .given .1) in
+    (i .state, simp length-take (omega (arith, s)), i .room)
+
+with-room-requires : tie.Need-with-room-requires Inv-loop μ-loop
+with-room-requires c κs =
+    let t = c .before .before .before .before .before .before .before .before .before .before .before .before .before .tell .ensures in
+    (t .inside, omega (arith, c .before .before .before .before .before .before .before .before .before .before .before .before .before .before .before .before .before .before .before .before .before .before .before .before .before .before .before .before .loop .inv .room .left, t .size))
+
+loop-less : tie.Need-loop-less Inv-loop μ-loop
+loop-less c = omega arith
+
+loop-again : tie.Need-loop-again Inv-loop μ-loop
+loop-again c =
+    let i = c .before .before .before .before .before .before .before .before .before .before .before .before .before .before .before .before .before .before .before .before .before .before .before .before .before .before .before .before .before .loop .inv in
+    let t = c .before .before .before .before .before .before .before .before .before .before .before .before .before .before .tell .ensures in
+    record {
+      held = i .held;
+      place = (lies (c .before .before .before .before .before .before .before .before .before .before .before .before .before .before .before .before .before .before .before .before .before .before .before .before .before .before .before .before .before .loop .buffer) (c .before .before .before .before .before .before .before .before .before .before .before .before .before .before .before .before .before .before .before .before .before .before .before .before .before .before .before .before .before .loop .part .held) (c .before .before .before .before .before .before .before .before .before .before .before .before .before .before .before .before .before .before .before .before .before .before .before .before .before .before .before .before .before .loop .at) (c .before .before .before .before .before .before .before .before .before .before .before .before .before .before .before .before .before .before .before .before .before .before .before .before .before .before .before .before .before .loop .inv .held .inside) (sym (c .before .before .before .before .before .before .before .before .before .before .before .before .before .before .before .before .before .before .before .before .before .before .before .before .before .before .record-at .ensures .0) ∙ c .before .before .before .before .before .before .before .before .before .before .before .before .before .before .before .before .before .before .before .before .before .before .before .before .found .given .1)) .inside;
+      room = c .with-room .ensures;
+      in-size = i .in-size;
+      out-size = t .size ∙ i .out-size;
+      sizes =
+          record {
+            sequence-channels = c .before .before .before .before .before .before .before .before .before .before .before .sequence-channels .given ∙ i .sizes .sequence-channels;
+            sequence-numbers = c .before .before .before .before .before .before .before .before .before .sequence-numbers .given ∙ i .sizes .sequence-numbers;
+            partial-channels = c .before .before .before .before .before .before .before .partial-channels .given ∙ i .sizes .partial-channels;
+            partial-sequences = c .before .before .before .before .before .partial-sequences .given ∙ i .sizes .partial-sequences;
+            partial-reliables = c .before .before .before .partial-reliables .given ∙ i .sizes .partial-reliables;
+          };
+      state = t .state;
+    }
+
+refill-requires : tie.Need-refill-requires Inv-loop μ-loop
+refill-requires c κs = let i = c .before .before .before .before .before .loop .inv in (i .held, i .place)
+
+finish-requires : tie.Need-finish-requires Inv-loop μ-loop
+finish-requires c κs = c .before .before .before .before .before .before .before .before .before .before .before .loop .inv .room
+
+same-length : tie.Need-same-length Inv-loop μ-loop
+same-length c = c .before .before .before .before .before .before .before .buffer2 .given ∙ c .before .before .before .before .before .before .before .before .before .before .before .before .before .before .loop .inv .in-size
+
+same-length-2 : tie.Need-same-length-2 Inv-loop μ-loop
+same-length-2 c = c .before .out2 .given ∙ c .before .before .before .before .before .before .before .before .before .before .before .before .before .before .loop .inv .out-size
+
+same-length-3 : tie.Need-same-length-3 Inv-loop μ-loop
+same-length-3 c = c .before .before .before .before .before .before .before .before .before .before .before .before .before .before .loop .inv .sizes .sequence-channels
+
+same-length-4 : tie.Need-same-length-4 Inv-loop μ-loop
+same-length-4 c = c .before .before .before .before .before .before .before .before .before .before .before .before .before .before .loop .inv .sizes .sequence-numbers
+
+same-length-5 : tie.Need-same-length-5 Inv-loop μ-loop
+same-length-5 c = c .before .before .before .before .before .before .before .before .before .before .before .before .before .before .loop .inv .sizes .partial-channels
+
+same-length-6 : tie.Need-same-length-6 Inv-loop μ-loop
+same-length-6 c = c .before .before .before .before .before .before .before .before .before .before .before .before .before .before .loop .inv .sizes .partial-sequences
+
+same-length-7 : tie.Need-same-length-7 Inv-loop μ-loop
+same-length-7 c = c .before .before .before .before .before .before .before .before .before .before .before .before .before .before .loop .inv .sizes .partial-reliables
+
+loop-less-2 : tie.Need-loop-less-2 Inv-loop μ-loop
+loop-less-2 c = omega arith
+
+loop-again-2 : tie.Need-loop-again-2 Inv-loop μ-loop
+loop-again-2 c =
+    let i = c .before .before .before .before .before .before .before .before .before .before .loop .inv in
+    record { held = c .before .before .before .before .refill .ensures; place = omega arith; room = i .room; in-size = c .before .before .before .buffer2 .given ∙ i .in-size; out-size = i .out-size; sizes = i .sizes; state = i .state }
+
+same-length-8 : tie.Need-same-length-8 Inv-loop μ-loop
+same-length-8 c = c .before .loop .inv .in-size
+
+same-length-9 : tie.Need-same-length-9 Inv-loop μ-loop
+same-length-9 c = c .before .loop .inv .out-size
+
+same-length-10 : tie.Need-same-length-10 Inv-loop μ-loop
+same-length-10 c = c .before .loop .inv .sizes .sequence-channels
+
+same-length-11 : tie.Need-same-length-11 Inv-loop μ-loop
+same-length-11 c = c .before .loop .inv .sizes .sequence-numbers
+
+same-length-12 : tie.Need-same-length-12 Inv-loop μ-loop
+same-length-12 c = c .before .loop .inv .sizes .partial-channels
+
+same-length-13 : tie.Need-same-length-13 Inv-loop μ-loop
+same-length-13 c = c .before .loop .inv .sizes .partial-sequences
+
+same-length-14 : tie.Need-same-length-14 Inv-loop μ-loop
+same-length-14 c = c .before .loop .inv .sizes .partial-reliables
+
+pub records-spec : {M : Type 1} → statement M
+records-spec =
+    tie.close
+    (tie.spec
+    Inv-loop
+    μ-loop
+    loop-holds
+    (λ c. search needs)
+    (λ c. search needs)
+    slice-aggregate-record-at
+    (λ c κs. search needs)
+    (λ c. search needs)
+    sub-tell
+    part-tell-start
+    part-tell-end
+    tell-requires
+    with-room-requires
+    loop-less
+    loop-again
+    (λ c. search needs)
+    refill-requires
+    finish-requires
+    same-length
+    same-length-2
+    same-length-3
+    same-length-4
+    same-length-5
+    same-length-6
+    same-length-7
+    (λ c. search needs)
+    loop-less-2
+    loop-again-2
+    same-length-8
+    same-length-9
+    same-length-10
+    same-length-11
+    same-length-12
+    same-length-13
+    same-length-14
+    (λ c. search needs))

@@ -1,0 +1,20 @@
+-- What the program's functions hand on: a part of the log in a buffer, and a record in it.
+use Prim.Native.Nat.{ℕ, _+_, _≤_, _<_}
+use mathlib.Core.Path.{_≡_}
+use mathlib.Core.List.{List}
+use lib.IntN.{ℤ}
+use lib.ListN.{length, getD}
+use Rattle.log.specs.declared.Entry.{Entry}
+use Rattle.listing.specs.declared.input.Part.{Part}
+
+pub record Held (buffer : List ℕ) (part : Part) : Type 0 where
+  pub inside : part .held ≤ length buffer
+
+-- n bytes from place i on now stand at the front
+pub record Slid (i n : ℕ) (before after : List ℕ) : Type 0 where
+  pub size : length after ≡ length before
+  pub moved : (k : ℕ) → k < n → getD after k 0 ≡ getD before (i + k) 0
+
+-- a packet's bytes
+pub record Short (e : Entry) : Type 0 where
+  pub short : {id : ℤ} {start n next : ℕ} → e ≡ Entry.Packet id start n next → next ≤ start + 65535

@@ -1,0 +1,48 @@
+-- What the contracts of the program's functions name: an answer's line, the room that a packet needs, and what its listing leaves.
+use Prim.Native.Nat.{ℕ, _+_, _≤_}
+use mathlib.Core.Path.{_≡_}
+use mathlib.Core.Bool.{Bool, true, false}
+use mathlib.Core.List.{List, []}
+use lib.ListN.{length}
+use Rattle.packet.specs.declared.Bunch.{Bunch}
+use Rattle.packet.specs.Memory.{Memory, channelsOf}
+use Rattle.packet.specs.Fits.{State}
+use Rattle.lines.specs.Lines.{bunchLine, written}
+use Rattle.listing.specs.declared.packets.Sums.{Sums}
+use Rattle.listing.specs.declared.packets.Told.{Told}
+use Rattle.listing.specs.Listing.{Listed, lineOf}
+
+abbrev pub answerText : Bunch → List ℕ
+answerText (Bunch.Read h w) = bunchLine (lineOf h)
+answerText Bunch.End = []
+answerText Bunch.Malformed = []
+answerText (Bunch.Refused e) = []
+
+abbrev pub answerGoesOn : Bunch → Bool
+answerGoesOn (Bunch.Read h w) = true
+answerGoesOn Bunch.End = false
+answerGoesOn Bunch.Malformed = false
+answerGoesOn (Bunch.Refused e) = false
+
+-- no sum has passed a bound
+pub record Few (n : ℕ) (s : Sums) : Type 0 where
+  pub bunches : s .bunches ≤ n
+  pub malformed : s .malformed ≤ n
+  pub partial-errors : s .«partial_errors» ≤ n
+  pub limit-errors : s .«limit_errors» ≤ n
+
+-- A header takes at least 29 bits and a line at most 96 bytes: the most that a packet of 65,535 bytes can add.
+abbrev pub packetRoom : ℕ
+packetRoom = 1735680
+
+pub record PacketRoom (out : List ℕ) (used : ℕ) : Type 0 where
+  pub left : used + packetRoom ≤ length out
+
+-- the packet's text stands in the buffer, and the tables are those after it
+pub record Tells (limit : ℕ) (l : Listed) (before : List ℕ) (used : ℕ) (after : List ℕ) (m : Memory) (r : Told) : Type 0 where
+  pub bytes : after ≡ written before used (l .text)
+  pub ends : r .end ≡ used + length (l .text)
+  pub inside : r .end ≤ length after
+  pub size : length after ≡ length before
+  pub tables : channelsOf (r .sequences) (r .partials) m ≡ l .channels
+  pub state : State limit (r .sequences) (r .partials) m

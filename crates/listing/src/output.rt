@@ -1,0 +1,30 @@
+// Lines gathered in a buffer, and written out where the next packet's might find no room.
+ghost use mathlib.Core.Path.{_≡_};
+ghost use Prim.Native.Nat.{_+_, _≤_};
+ghost use lib.ListN.{length};
+ghost use Rattle.listing.specs.Turns.{packetRoom, PacketRoom};
+use libc::STDERR_FILENO;
+use libc::STDOUT_FILENO;
+
+// Whether all was written; where not, standard error says so.
+pub fn flush(out: &[u8], used: usize) -> bool
+    requires { ⌜ used ≤ length (now out) ⌝ }
+{
+    let written = io::write_all(STDOUT_FILENO, &out[..used]);
+    if !written {
+        io::write_all(STDERR_FILENO, b"standard output can't be written\n");
+    }
+    written
+}
+
+// A write that failed is told once, and the lines after it are lost.
+pub fn with_room(out: &[u8], used: usize) -> usize
+    requires { ⌜ (used ≤ length (now out)) × (packetRoom ≤ length (now out)) ⌝ }
+    ensures { λ r. ⌜ PacketRoom (now (out .entry)) r ⌝ }
+{
+    if out.len() - used < 1735680 {
+        flush(out, used);
+        return 0;
+    }
+    used
+}

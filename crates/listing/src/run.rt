@@ -1,0 +1,143 @@
+// The listing: the version byte, then record after record.
+ghost use mathlib.Core.Path.{_≡_};
+ghost use Prim.Native.Nat.{_+_, _≤_};
+ghost use lib.ListN.{length};
+ghost use Rattle.packet.specs.Memory.{memory};
+ghost use Rattle.packet.specs.Fits.{State};
+ghost use Rattle.log.specs.Log.{entryAt};
+ghost use Rattle.listing.specs.Input.{Held, Short};
+ghost use Rattle.listing.specs.Turns.{PacketRoom};
+use crate::input;
+use crate::input::Part;
+use crate::output;
+use crate::packets;
+use libc::STDERR_FILENO;
+use log::Entry;
+use log::Version;
+use packet::Reader;
+
+fn cut(out: &mut [u8], used: usize, offset: u64)
+    requires { ⌜ PacketRoom (now out) used ⌝ }
+{
+    let end = lines::inner::cut_line(out, used, offset);
+    output::flush(out, end);
+    io::write_all(STDERR_FILENO, b"the log ends in a cut record\n");
+}
+
+fn other_version(out: &mut [u8], version: u8)
+    requires { ⌜ PacketRoom (now out) 0 ⌝ }
+{
+    let end = lines::inner::version_line(out, 0, version);
+    output::flush(out, end);
+    io::write_all(STDERR_FILENO, b"the log is of another version\n");
+}
+
+// Nothing more was read: `left` bytes of a record are cut, or the log is whole.
+fn finish(out: &mut [u8], used: usize, left: usize, offset: u64)
+    requires { ⌜ PacketRoom (now out) used ⌝ }
+{
+    if left > 0 {
+        cut(out, used, offset);
+        return;
+    }
+    output::flush(out, used);
+}
+
+// Two bytes hold its length, so a packet is never above 65,535 bytes.
+fn record_at(bytes: &[u8], at: u64) -> Entry
+    ensures { λ r. ⌜ (r ≡ entryAt (now (bytes .entry)) at) × Short r ⌝ }
+{
+    log::reading::record_at(bytes, at)
+}
+
+// A proved loop has to end, and nothing says that an input does: it counts its turns down, from a number that no run uses up.
+fn records(
+    buffer: &mut [u8],
+    out: &mut [u8],
+    first: Part,
+    sequence_channels: &mut [u32],
+    sequence_numbers: &mut [u32],
+    partial_channels: &mut [u32],
+    partial_sequences: &mut [u32],
+    partial_reliables: &mut [u32],
+)
+    requires { ⌜ Held (now buffer) first × (1 ≤ first .held) × PacketRoom (now out) 0 × State 4096 0 0 (memory (now «sequence_channels») (now «sequence_numbers») (now «partial_channels») (now «partial_sequences») (now «partial_reliables»)) ⌝ }
+{
+    let mut part = first;
+    let mut at: usize = 1;
+    let mut used: usize = 0;
+    let mut sequences: usize = 0;
+    let mut partials: usize = 0;
+    let mut turns = u64::MAX;
+    while turns > 0 {
+        turns -= 1;
+        let held = part.held;
+        let found = record_at(&buffer[..held], at as u64);
+        if let Entry::Packet {
+            id,
+            start,
+            length: _,
+            next,
+        } = found {
+            let from = start as usize;
+            let to = next as usize;
+            let told = packets::tell(
+                &buffer[from..to],
+                id,
+                Reader {
+                    max_channels: 4096,
+                    sequences,
+                    partials,
+                },
+                out,
+                used,
+                sequence_channels,
+                sequence_numbers,
+                partial_channels,
+                partial_sequences,
+                partial_reliables,
+            );
+            used = output::with_room(out, told.end);
+            sequences = told.sequences;
+            partials = told.partials;
+            at = to;
+        } else {
+            let left = held - at;
+            part = input::refill(buffer, part, at);
+            at = 0;
+            if part.held == left {
+                finish(out, used, left, part.before);
+                return;
+            }
+        }
+    }
+}
+
+pub fn list(
+    buffer: &mut [u8],
+    out: &mut [u8],
+    sequence_channels: &mut [u32],
+    sequence_numbers: &mut [u32],
+    partial_channels: &mut [u32],
+    partial_sequences: &mut [u32],
+    partial_reliables: &mut [u32],
+)
+    requires { ⌜ PacketRoom (now out) 0 × State 4096 0 0 (memory (now «sequence_channels») (now «sequence_numbers») (now «partial_channels») (now «partial_sequences») (now «partial_reliables»)) ⌝ }
+{
+    let part = input::refill(buffer, Part { before: 0, held: 0 }, 0);
+    let held = part.held;
+    match log::reading::version(&buffer[..held]) {
+        Version::Missing => cut(out, 0, 0),
+        Version::Other(version) => other_version(out, version),
+        Version::Ours => records(
+            buffer,
+            out,
+            part,
+            sequence_channels,
+            sequence_numbers,
+            partial_channels,
+            partial_sequences,
+            partial_reliables,
+        ),
+    }
+}
