@@ -13,7 +13,7 @@ use Rattle.bitio.proofs.Rows.{not-refused}
 use Rattle.bitio.proofs.Steps.{bits-short, bits-there}
 use Rattle.bitio.proofs.Keeps.{Keeps, left, keeps-then, keeps-give, keeps-if, keeps-bits, keeps-packed, keeps-serialized, packed-reads, reads-first}
 use Rattle.types.specs.Types.{closeReasonMaximum, payloadMaximum}
-use Rattle.packet.specs.Header.{fields}
+use Rattle.header.specs.Header.{fields}
 
 pub record Gains {A : Type 0} (n : ℕ) (p : Parse A) : Type 0 where
   pub gains : (d : List ℕ) (w : Window) {a : A} {u : Window} → p d w ≡ got a u → w .position .0 + n ≤ u .position .0

@@ -13,7 +13,8 @@ use Rattle.log.proofs.Steps.{within}
 use Rattle.listing.specs.declared.input.Part.{Part}
 use Rattle.tables.specs.Columns.{ascending}
 use Rattle.packet.specs.Memory.{Memory, memory}
-use Rattle.packet.specs.Fits.{Fits, State}
+use Rattle.channels.specs.Fits.{Fits}
+use Rattle.packet.specs.State.{State}
 use Rattle.listing.specs.Input.{Held, Short}
 use Rattle.listing.specs.Turns.{PacketRoom}
 use Rattle.listing.proofs.Telling.{SameSizes}

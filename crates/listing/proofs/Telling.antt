@@ -14,9 +14,9 @@ use Rattle.packet.specs.declared.Bunch.{Bunch}
 use Rattle.packet.specs.declared.BunchRead.{BunchRead}
 use Rattle.packet.specs.Packet.{Channels, Outcome, bunch, end, malformed, Read, dataBits, nextBunch}
 use Rattle.packet.specs.Memory.{Memory, channelsOf, laidIn}
-use Rattle.packet.specs.Fits.{State}
+use Rattle.packet.specs.State.{State}
 use Rattle.packet.specs.Answers.{Reply, bunchAnswer, ofRead, reply}
-use Rattle.packet.proofs.Kept.{sequences-back, partials-back}
+use Rattle.channels.proofs.Kept.{sequences-back, partials-back}
 use Rattle.lines.specs.Lines.{written, lineRoom}
 use Rattle.lines.specs.Puts.{Put}
 use Rattle.lines.proofs.Texts.{written-append}

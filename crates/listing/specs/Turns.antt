@@ -6,7 +6,7 @@ use mathlib.Core.List.{List, []}
 use lib.ListN.{length}
 use Rattle.packet.specs.declared.Bunch.{Bunch}
 use Rattle.packet.specs.Memory.{Memory, channelsOf}
-use Rattle.packet.specs.Fits.{State}
+use Rattle.packet.specs.State.{State}
 use Rattle.lines.specs.Lines.{bunchLine, written}
 use Rattle.listing.specs.declared.packets.Sums.{Sums}
 use Rattle.listing.specs.declared.packets.Told.{Told}

@@ -4,7 +4,7 @@ ghost use mathlib.Core.Bool.{false};
 ghost use Prim.Native.Nat.{_+_, _≤_};
 ghost use lib.ListN.{length};
 ghost use Rattle.packet.specs.Memory.{memory, channelsOf};
-ghost use Rattle.packet.specs.Fits.{State};
+ghost use Rattle.packet.specs.State.{State};
 ghost use Rattle.lines.specs.Lines.{lineRoom};
 ghost use Rattle.lines.specs.Puts.{Put};
 ghost use Rattle.listing.specs.Listing.{lineOf, raised, closing, listed};

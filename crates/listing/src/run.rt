@@ -3,7 +3,7 @@ ghost use mathlib.Core.Path.{_≡_};
 ghost use Prim.Native.Nat.{_+_, _≤_};
 ghost use lib.ListN.{length};
 ghost use Rattle.packet.specs.Memory.{memory};
-ghost use Rattle.packet.specs.Fits.{State};
+ghost use Rattle.packet.specs.State.{State};
 ghost use Rattle.log.specs.Log.{entryAt};
 ghost use Rattle.listing.specs.Input.{Held, Short};
 ghost use Rattle.listing.specs.Turns.{PacketRoom};

@@ -7,7 +7,7 @@ use mir.Val.{toZ, ofZ, boolByte}
 use mir.ValLaws.{toZ-ofZ}
 use Rattle.packet.specs.Packet.{dataBits}
 use Rattle.packet.specs.Memory.{memory, channelsOf}
-use Rattle.packet.specs.Fits.{State}
+use Rattle.packet.specs.State.{State}
 use Rattle.listing.specs.Listing.{listed}
 use Rattle.listing.proofs.Telling.{SameSizes, same-sizes, Telling, begins, turned, nearer, few-sums, told}
 use Rattle.listing.proofs.packets.tell.Statement.{statement}
