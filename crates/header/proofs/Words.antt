@@ -1,6 +1,6 @@
 -- A field of a peeked word is a read of the data, and reads in a row are one read.
 use Prim.Native.Nat.{ℕ, suc, _+_, _*_, _-_, _/_, _%_, _^_, _≤_, _<_}
-use mathlib.Core.Path.{_≡_, refl, sym, ap, _∙_}
+use mathlib.Core.Path.{_≡_, refl, sym, ap, ap₂, _∙_}
 use mathlib.Core.Bool.{Bool, true, false, _&&_, cond, true≢false}
 use mathlib.Core.List.{List}
 use native.Mathlib.Nat.{div-one, add-zero, zero-mul}
@@ -16,6 +16,7 @@ use Rattle.bitio.specs.Words.{Peeked}
 use Rattle.bitio.specs.Refusals.{placeOf}
 use Rattle.bitio.specs.Parse.{Answer, got, Parse, andThen, _>>=_, give, readIf, place, advanced}
 use Rattle.bitio.specs.Reads.{bits, bit, packedFrom, packed, log2, serialized}
+use Rattle.bitio.proofs.Numbers.{cut}
 use Rattle.bitio.proofs.Steps.{bits-there}
 use Rattle.header.specs.declared.BunchFields.{BunchFields}
 use Rattle.header.specs.declared.inner.quick.Rest.{Rest}
@@ -122,13 +123,21 @@ of-place {q} s =
       same = λ d w. s (placeOf (advanced w (q .used))) .same d w;
     }
 
-pub packed-reads : (q : Rest) (wanted second third : Bool) → eqb (q .word % 2) 1 ≡ second → eqb (q .word / 256 % 2) 1 ≡ third
-    → Reads (readIf wanted 0 packed) q (cond wanted (q .word / 2 % 128 + cond second (q .word / 512 % 128 * 128) 0) 0) (passed q (cond wanted (8 + cond second (8 + cond third 47 0) 0) 0))
+-- a field of so many bits, of which at most two bytes count
+abbrev two-bytes : ℕ → ℕ
+two-bytes x = x / 2 % 128 + x / 512 % 128 * 128
+
+pub packed-reads : (q : Rest) (wanted more most : Bool) → eqb (q .word % 2) 1 ≡ more → eqb (q .word / 256 % 2) 1 ≡ most
+    → let n : ℕ = cond wanted 8 0 + cond (wanted && more) 8 0 + cond ((wanted && more) && most) 47 0 in
+    Reads (readIf wanted 0 packed) q (two-bytes (q .word % 2 ^ n)) (passed q n)
 unfolding readIf
-packed-reads q false second third e f = skips 0 q
-packed-reads q true false third e f = which-is (of-place (λ start. last-byte start q 3 (omega (arith, eqb-false)))) (omega arith) refl
+packed-reads q false more most e f = which-is (skips 0 q) (omega arith) refl
+packed-reads q true false most e f = which-is (of-place (λ start. last-byte start q 3 (omega (arith, eqb-false)))) (omega arith) refl
 packed-reads q true true false e f =
-    which-is (of-place (λ start. byte-before start q 3 (eqb-true _ _ e) (last-byte start (passed q 8) 2 (omega (arith, eqb-false))))) (omega arith) (passed-twice q 8 8)
+    which-is (of-place (λ start. byte-before start q 3 (eqb-true _ _ e) (last-byte start (passed q 8) 2 (omega (arith, eqb-false)))))
+    (ap₂ (λ (x y : ℕ). x + y * 128) (sym (cut (q .word) 1 7 16 (omega arith)))
+    (ap (λ (x : ℕ). x % 128) (shr-shr (q .word) 8 1) ∙ sym (cut (q .word) 9 7 16 (omega arith))))
+    (passed-twice q 8 8)
 packed-reads q true true true e f = beyond packed q _ 63 (omega arith)
 
 -- a number with maximum m, whose logarithm is n
@@ -148,10 +157,10 @@ module _ (m : ℕ) {n : ℕ} (en : log2 m ≡ n) (q : Rest) where
       (rw (lt-ltb (q .word % 2 ^ n + 2 ^ n) m h) (which-is (then _ (takes (passed q n) 1) (gives _ _)) refl (passed-twice q n 1))))
 
 pub reason-reads : (q : Rest) (wanted fourth : Bool) → ltb (q .word % 8) 7 ≡ fourth
-    → Reads (readIf wanted 0 (serialized 15)) q (cond wanted (q .word % 8 + cond fourth (q .word / 8 % 2 * 8) 0) 0) (passed q (cond wanted (3 + cond fourth 1 0) 0))
+    → let n : ℕ = cond wanted 3 0 + cond (wanted && fourth) 1 0 in Reads (readIf wanted 0 (serialized 15)) q (q .word % 16 % 2 ^ n) (passed q n)
 unfolding readIf log2 leadingZeros
-reason-reads q false fourth e = skips 0 q
-reason-reads q true true e = with-top 15 {n = 3} refl q (omega (arith, ltb-true))
+reason-reads q false fourth e = which-is (skips 0 q) (omega arith) refl
+reason-reads q true true e = which-is (with-top 15 {n = 3} refl q (omega (arith, ltb-true))) (omega arith) refl
 reason-reads q true false e = which-is (without-top 15 {n = 3} refl q (omega (arith, ltb-false))) (omega arith) refl
 
 pub count-reads : (q : Rest) → Reads (serialized 16384) q (q .word % 16384) (passed q 14)

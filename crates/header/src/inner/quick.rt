@@ -1,8 +1,8 @@
-// The header's fields as those of one peeked word, without a branch: whether the bits used were there is for the caller to test,
-// once.
+// The header's fields as those of one peeked word, without a branch: a field that is not wanted is 0 bits wide, and whether the bits
+// used were there is for the caller to test, once.
 ghost use mathlib.Core.Path.{_≡_};
 ghost use mathlib.Core.Bool.{false, cond};
-ghost use Prim.Native.Nat.{_+_, _≤_, _<_};
+ghost use Prim.Native.Nat.{_+_, _%_, _^_, _≤_, _<_};
 ghost use Rattle.bitio.specs.Parse.{readIf};
 ghost use Rattle.bitio.specs.Reads.{bit, packed, serialized};
 ghost use Rattle.types.specs.Types.{closeReasonMaximum, payloadMaximum};
@@ -37,6 +37,21 @@ fn only_if(wanted: bool, n: u64) -> u64
     if wanted { n } else { 0 }
 }
 
+fn power(n: u64) -> u64
+    requires { ⌜ n < 64 ⌝ }
+    ensures { λ r. ⌜ (r ≡ 2 ^ n) × (0 < r) ⌝ }
+{
+    1 << n
+}
+
+// The n lowest bits: none where n is 0, so that what is not wanted is 0.
+fn low(x: u64, n: u64) -> u64
+    requires { ⌜ n < 64 ⌝ }
+    ensures { λ r. ⌜ (r ≡ x % 2 ^ n) × (r ≤ x) ⌝ }
+{
+    x % power(n)
+}
+
 fn pass(q: Rest, n: u64) -> Rest
     requires { ⌜ (n < 64) × (q .used ≤ 1024) ⌝ }
     ensures { λ r. ⌜ r ≡ passed q n ⌝ }
@@ -62,13 +77,13 @@ fn packed(q: Rest, wanted: bool) -> QuickNumber
     requires { ⌜ q .used ≤ 1024 ⌝ }
     ensures { λ r. ⌜ Reads (readIf wanted 0 packed) q (r .value) (r .rest) × (r .rest .used ≤ q .used + 63) ⌝ }
 {
-    let second = q.word % 2 == 1;
-    let third = q.word / 256 % 2 == 1;
-    let value = q.word / 2 % 128 + only_if(second, q.word / 512 % 128 * 128);
-    let width = 8 + only_if(second, 8 + only_if(third, 47));
+    let second = wanted & (q.word % 2 == 1);
+    let third = second & (q.word / 256 % 2 == 1);
+    let width = only_if(wanted, 8) + only_if(second, 8) + only_if(third, 47);
+    let bytes = low(q.word, width);
     QuickNumber {
-        value: only_if(wanted, value) as u32,
-        rest: pass(q, only_if(wanted, width)),
+        value: (bytes / 2 % 128 + bytes / 512 % 128 * 128) as u32,
+        rest: pass(q, width),
     }
 }
 
@@ -77,12 +92,11 @@ fn reason(q: Rest, wanted: bool) -> QuickNumber
     requires { ⌜ q .used ≤ 1024 ⌝ }
     ensures { λ r. ⌜ Reads (readIf wanted 0 (serialized closeReasonMaximum)) q (r .value) (r .rest) × (r .rest .used ≤ q .used + 4) ⌝ }
 {
-    let fourth = q.word % 8 < 7;
-    let value = q.word % 8 + only_if(fourth, q.word / 8 % 2 * 8);
-    let width = 3 + only_if(fourth, 1);
+    let fourth = wanted & (q.word % 8 < 7);
+    let width = only_if(wanted, 3) + only_if(fourth, 1);
     QuickNumber {
-        value: only_if(wanted, value) as u32,
-        rest: pass(q, only_if(wanted, width)),
+        value: low(q.word % 16, width) as u32,
+        rest: pass(q, width),
     }
 }
 
