@@ -7,11 +7,11 @@ use native.Mathlib.Decide.{decLe}
 use native.Mathlib.Omega.{arith}
 use lib.Count.{leadingZeros}
 use Rattle.bitio.specs.declared.Window.{Window}
-use Rattle.bitio.specs.Parse.{Answer, got, refused, Parse, andThen, _>>=_, give, advanced}
+use Rattle.bitio.specs.Parse.{Answer, got, refused, Parse, andThen, _>>=_, advanced}
 use Rattle.bitio.specs.Reads.{bits, bit, packed, log2, serialized}
 use Rattle.bitio.proofs.Rows.{not-refused}
 use Rattle.bitio.proofs.Steps.{bits-short, bits-there}
-use Rattle.bitio.proofs.Keeps.{Keeps, left, keeps-then, keeps-give, keeps-if, keeps-bits, keeps-packed, keeps-serialized, packed-reads, reads-first}
+use Rattle.bitio.proofs.Keeps.{Keeps, keeps-then, keeps-give, keeps-if, keeps-bits, keeps-packed, keeps-serialized, packed-reads}
 use Rattle.types.specs.Types.{closeReasonMaximum, payloadMaximum}
 use Rattle.header.specs.Header.{fields}
 

@@ -3,3 +3,4 @@ pub mod Going
 pub mod Gains
 pub mod Moving
 pub mod Telling
+pub mod Example

@@ -1,21 +1,21 @@
 -- A read moves the cursor on and stays within the data; a bunch moves it by a header at least, and no count rises by more than 1.
-use mathlib.Core.Path.{_≡_, refl, sym, ap, _∙_}
+use mathlib.Core.Path.{_≡_, refl, sym, ap}
 use mathlib.Core.Bool.{Bool, true, false, cond}
 use mathlib.Core.List.{List}
-use Prim.Native.Nat.{ℕ, _+_, _*_, _-_, _≤_, _<_}
+use Prim.Native.Nat.{ℕ, _+_, _*_, _-_, _≤_}
 use native.Mathlib.Omega.{arith}
-use borrow.Author.Tests.{eqb-true, leb-true, leb-false, ltb-false}
+use borrow.Author.Tests.{eqb-true, ltb-false}
 use lib.Count.{leadingZeros}
 use lib.Dec.{eqb, leb, ltb}
 use lib.ListN.{length}
 use mir.Val.{boolByte}
 use Rattle.bitio.specs.Parse.{Answer, got, refused}
-use Rattle.header.specs.declared.BunchFields.{BunchFields}
-use Rattle.header.specs.Header.{Header, unreadable, readable, headerOf, fields}
-use Rattle.packet.specs.Packet.{Channels, Read, lastByte, dataBits, rest, ended, broken, whole, compared, headed, nextBunch}
-use Rattle.channels.specs.Sequences.{Numbered, numbered}
-use Rattle.channels.specs.Partials.{Tracked, tracking}
-use Rattle.header.proofs.Within.{within}
+use Rattle.packet.specs.declared.BunchFields.{BunchFields}
+use Rattle.packet.specs.Header.{readable, headerOf, fields}
+use Rattle.packet.specs.Packet.{Channels, Read, lastByte, dataBits, rest, ended, broken, whole, headed, nextBunch}
+use Rattle.packet.specs.Sequences.{Numbered, numbered}
+use Rattle.packet.specs.Partials.{Tracked, tracking}
+use Rattle.packet.proofs.Within.{within}
 use Rattle.listing.specs.Listing.{goesOn}
 use Rattle.listing.proofs.Gains.{gains-fields}
 

@@ -1,7 +1,7 @@
 -- Document 01's "Writer and log": the text that one packet adds to the listing.
 use Prim.Native.Nat.{ℕ, zero, suc, _+_}
 use mathlib.Core.Bool.{Bool, true, false, cond}
-use mathlib.Core.List.{List, [], _++_}
+use mathlib.Core.List.{List, [], _∷_, _++_}
 use lib.Dec.{ltb}
 use lib.IntN.{ℤ}
 use mir.Syntax.{w32}
@@ -9,7 +9,8 @@ use mir.Val.{ofZ}
 use Rattle.types.specs.declared.RawBunchHeader.{RawBunchHeader}
 use Rattle.packet.specs.Packet.{Channels, Outcome, bunch, end, malformed, Read, dataBits, nextBunch}
 use Rattle.lines.specs.declared.BunchLine.{BunchLine}
-use Rattle.lines.specs.Lines.{bunchLine, packetLine}
+use Rattle.lines.specs.Lines.{bunchLine, packetLine, versionLine, cutLine}
+use Rattle.log.specs.Log.{Packet, Ending, whole, otherVersion, cut, logOf}
 use Rattle.listing.specs.declared.packets.Sums.{Sums}
 
 -- what a bunch's line shows of its header
@@ -84,3 +85,18 @@ module _ (limit : ℕ) (d : List ℕ) (id : ℤ) where
 
   abbrev pub listed : Channels → Listed
   listed t = listedFrom (suc (dataBits d)) 0 (sums 0 0 0 0) t
+
+-- "The channel limit is 4,096." The tables live over the whole log.
+abbrev pub packetsFrom : Channels → List Packet → List ℕ
+packetsFrom t [] = []
+packetsFrom t (p ∷ ps) = let l = listed 4096 (p .bytes) (p .id) t in l .text ++ packetsFrom (l .channels) ps
+
+-- "V and X end the listing."
+abbrev pub endingLine : Ending → List ℕ
+endingLine whole = []
+endingLine (otherVersion b) = versionLine b
+endingLine (cut i) = cutLine i
+
+-- What the program prints of a log. Of what stands in a file no contract says anything, so this one is held by examples.
+abbrev pub listing : List ℕ → List ℕ
+listing d = packetsFrom (record { sequences = []; partials = [] }) (logOf d .packets) ++ endingLine (logOf d .ending)

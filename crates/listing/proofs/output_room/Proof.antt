@@ -4,10 +4,7 @@ use Prim.Native.Nat.{ℕ}
 use lib.ListN.{length-replicate}
 use Rattle.listing.proofs.output_room.Statement.{statement}
 use Rattle.listing.proofs.output_room.Tie as tie
-use Rattle.listing.proofs.output_room.Reads as reads
-use Rattle.listing.proofs.output_room.Lts as lts
 
--- src/main.rt:18:1
 returns : tie.Need-returns
 returns c = sym (length-replicate {0} {A = ℕ} 2097152 0)
 

@@ -1,9 +1,9 @@
 -- `Telling` holds at each turn: what is written and what is still to come make up the packet's text.
-use mathlib.Core.Path.{_≡_, refl, sym, ap, _∙_}
+use mathlib.Core.Path.{_∙_}
 use Prim.Native.Nat.{_+_, _-_}
 use native.Mathlib.Omega.{arith}
 use mir.Syntax.{w32}
-use mir.Val.{toZ, ofZ, boolByte}
+use mir.Val.{toZ, boolByte}
 use mir.ValLaws.{toZ-ofZ}
 use Rattle.packet.specs.Packet.{dataBits}
 use Rattle.packet.specs.Memory.{memory, channelsOf}
@@ -12,13 +12,6 @@ use Rattle.listing.specs.Listing.{listed}
 use Rattle.listing.proofs.Telling.{SameSizes, same-sizes, Telling, begins, turned, nearer, few-sums, told}
 use Rattle.listing.proofs.packets.tell.Statement.{statement}
 use Rattle.listing.proofs.packets.tell.Tie as tie
-use Rattle.listing.proofs.packets.tell.Reads as reads
-use Rattle.listing.proofs.packets.tell.Lts as lts
-use Rattle.bitio.proofs.inner.signed.to_word.Reads as to-word-reads
-use Rattle.listing.proofs.packets.close.Reads as close-reads
-use Rattle.listing.proofs.packets.raise.Reads as raise-reads
-use Rattle.listing.proofs.packets.show.Reads as show-reads
-use Rattle.packet.proofs.inner.read.read.Reads as read-reads
 
 abbrev Inv-loop : tie.InvT-loop
 Inv-loop packet id out₀ used sequence-channels₀ sequence-numbers₀ partial-channels₀ partial-sequences₀ partial-reliables₀ word limit sequences₀ partials₀ at₀ end₀ sums₀ more₀ out sequence-channels sequence-numbers partial-channels partial-sequences partial-reliables sequences partials at end sums more =

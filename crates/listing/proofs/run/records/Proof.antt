@@ -8,13 +8,6 @@ use Rattle.listing.proofs.Going.{Going, lies}
 use borrow.Author.Needs.{needs}
 use Rattle.listing.proofs.run.records.Statement.{statement}
 use Rattle.listing.proofs.run.records.Tie as tie
-use Rattle.listing.proofs.run.records.Reads as reads
-use Rattle.listing.proofs.run.records.Lts as lts
-use Rattle.listing.proofs.input.refill.Reads as refill-reads
-use Rattle.listing.proofs.output.with_room.Reads as with-room-reads
-use Rattle.listing.proofs.packets.tell.Reads as tell-reads
-use Rattle.listing.proofs.run.finish.Reads as finish-reads
-use Rattle.listing.proofs.run.record_at.Reads as record-at-reads
 
 abbrev Inv-loop : tie.InvT-loop
 Inv-loop buffer₀ out₀ sequence-channels₀ sequence-numbers₀ partial-channels₀ partial-sequences₀ partial-reliables₀ part₀ at₀ used₀ sequences₀ partials₀ turns₀ buffer out sequence-channels sequence-numbers partial-channels partial-sequences partial-reliables part at used sequences partials turns =
