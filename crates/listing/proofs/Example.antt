@@ -9,9 +9,9 @@ use Rattle.bitio.specs.Parse.{_>>=_, _>>_, give, refuse, refuseIf, readIf, plac
 use Rattle.bitio.specs.Reads.{need, taken, bits, bit, packedFrom, packed, log2, serialized}
 use Rattle.tables.specs.Tables.{get, put, without}
 use Rattle.types.specs.Types.{reasonOf}
-use Rattle.packet.specs.Header.{fields}
-use Rattle.packet.specs.Sequences.{following, reliably, unreliable, numbered}
-use Rattle.packet.specs.Partials.{continues, judged, tracking}
+use Rattle.header.specs.Header.{fields}
+use Rattle.channels.specs.Sequences.{following, reliably, unreliable, numbered}
+use Rattle.channels.specs.Partials.{continues, judged, tracking}
 use Rattle.packet.specs.Packet.{dataBits, whole, nextBunch}
 use Rattle.log.specs.Log.{versionOf, entryAt, logFrom}
 use Rattle.lines.specs.Decimal.{digitsFrom, decimal, decimalSigned}

@@ -10,12 +10,12 @@ use lib.Dec.{eqb, leb, ltb}
 use lib.ListN.{length}
 use mir.Val.{boolByte}
 use Rattle.bitio.specs.Parse.{Answer, got, refused}
-use Rattle.packet.specs.declared.BunchFields.{BunchFields}
-use Rattle.packet.specs.Header.{readable, headerOf, fields}
+use Rattle.header.specs.declared.BunchFields.{BunchFields}
+use Rattle.header.specs.Header.{readable, headerOf, fields}
 use Rattle.packet.specs.Packet.{Channels, Read, lastByte, dataBits, rest, ended, broken, whole, headed, nextBunch}
-use Rattle.packet.specs.Sequences.{Numbered, numbered}
-use Rattle.packet.specs.Partials.{Tracked, tracking}
-use Rattle.packet.proofs.Within.{within}
+use Rattle.channels.specs.Sequences.{Numbered, numbered}
+use Rattle.channels.specs.Partials.{Tracked, tracking}
+use Rattle.header.proofs.Within.{within}
 use Rattle.listing.specs.Listing.{goesOn}
 use Rattle.listing.proofs.Gains.{gains-fields}
 
