@@ -1,4 +1,5 @@
 // Our calls by their numbers in the list.
+use crate::packets;
 use crate::walks;
 use exports::copies;
 use exports::reads;
@@ -33,6 +34,7 @@ pub(crate) fn run(call: u8, data: &[u8], given: Given, target: &mut [u8], answer
             answer,
         ),
         22..=24 => walks::run(call, data, given, target, answer),
+        26 => packets::run(data, given, target, answer),
         _ => (),
     }
 }

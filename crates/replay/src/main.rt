@@ -4,6 +4,7 @@ ghost use lib.ListN.{length};
 
 mod calls;
 mod hex;
+mod packets;
 mod record;
 mod report;
 mod walks;

@@ -31,7 +31,7 @@ fn pair(list: &[u8], at: usize) -> usize
     256 * byte(list, at) + byte(list, at + 1)
 }
 
-fn quad(list: &[u8], at: usize) -> usize
+pub(crate) fn quad(list: &[u8], at: usize) -> usize
     requires { ⌜ at + 2 < 2 ^ 32 ⌝ }
     ensures { λ r. ⌜ r < 2 ^ 32 ⌝ }
 {

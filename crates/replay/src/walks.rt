@@ -24,11 +24,12 @@ fn load(target: &[u8], places: &mut [Place], k: usize)
     }
 }
 
-fn put(target: &mut [u8], at: usize, number: u64)
-    requires { ⌜ (at + 8 ≤ length (now target)) × (at < 256) ⌝ }
+// So many bytes of a number.
+pub(crate) fn put(target: &mut [u8], at: usize, size: usize, number: u64)
+    requires { ⌜ (at + size ≤ length (now target)) × (at < 256) × (size ≤ 8) ⌝ }
 {
     let mut rest = number;
-    let mut i = 8;
+    let mut i = size;
     while i > 0 {
         i -= 1;
         target[at + i] = (rest % 256) as u8;
@@ -42,10 +43,10 @@ fn store(target: &mut [u8], places: &[Place], k: usize)
     let mut i = 0;
     while i < k {
         let at = 8 + 32 * i;
-        put(target, at, places[i][0]);
-        put(target, at + 8, places[i][1]);
-        put(target, at + 16, places[i][2]);
-        put(target, at + 24, places[i][3]);
+        put(target, at, 8, places[i][0]);
+        put(target, at + 8, 8, places[i][1]);
+        put(target, at + 16, 8, places[i][2]);
+        put(target, at + 24, 8, places[i][3]);
         i += 1;
     }
 }
@@ -109,7 +110,7 @@ fn run_in(
     let mut out = [u64::MAX; 8];
     walk(call, data, given, &mut places[..k], &mut out);
     store(target, places, k);
-    put(target, 0, out[7]);
+    put(target, 0, 8, out[7]);
     *answer = [out[0], out[1], out[2], out[3], out[4], out[5], out[6]];
 }
 

@@ -7,10 +7,10 @@ use Rattle.replay.proofs.walks.put.Statement.{statement}
 use Rattle.replay.proofs.walks.put.Tie as tie
 
 abbrev Inv-loop : tie.InvT-loop
-Inv-loop target₀ at number rest₀ i₀ target rest i = (i ≤ 8) × (length target ≡ length target₀)
+Inv-loop target₀ at size number rest₀ i₀ target rest i = (i ≤ size) × (length target ≡ length target₀)
 
 abbrev μ-loop : tie.MeasureT-loop
-μ-loop target₀ at number rest₀ i₀ target rest i = i
+μ-loop target₀ at size number rest₀ i₀ target rest i = i
 
 pub put-spec : {M : Type 1} → statement M
 put-spec =
