@@ -12,6 +12,8 @@ mod abi;
 mod bits;
 mod inputs;
 mod loops;
+#[cfg(singles)]
+mod packets;
 #[allow(dead_code)]
 #[path = "../oracle/driver/random.rs"]
 mod random;
@@ -47,5 +49,6 @@ fn main() {
     {
         singles::run(&timing);
         walks::run(&timing);
+        packets::run(&timing);
     }
 }
