@@ -9,7 +9,7 @@ use crate::random::Random;
 use std::collections::BTreeSet;
 use vrf_net::packet::RawPacketReader;
 
-const LIMITS: [usize; 6] = [0, 1, 2, 3, 16, 4096];
+const LIMITS: [usize; 5] = [0, 1, 2, 3, 16];
 
 /// Sequences on either side of what the Rust tests.
 const SEQUENCES: [u32; 8] = [0, 1, i32::MAX as u32 - 1, i32::MAX as u32, 1 << 31, (1 << 31) + 1, u32::MAX - 1, u32::MAX];
@@ -149,7 +149,7 @@ impl Inputs {
     fn logs(&mut self) {
         self.comparing.stage("logs");
         for round in 0..self.rounds(60_000, 800_000) {
-            let limit = LIMITS[round as usize % 5];
+            let limit = LIMITS[round as usize % LIMITS.len()];
             let count = 1 + self.random.below(12);
             let channels = streams::channels(&mut self.random, count);
             let places = limit + self.random.below(3) as usize;
@@ -184,7 +184,7 @@ impl Inputs {
         self.comparing.stage("every cursor");
         for round in 0..self.rounds(3_000, 60_000) {
             let channels = streams::channels(&mut self.random, 6);
-            let mut case = self.filled(LIMITS[round as usize % 5], 20, &channels);
+            let mut case = self.filled(LIMITS[round as usize % LIMITS.len()], 20, &channels);
             let bunches = self.random.below(6);
             case.packet = streams::packet(&mut self.random, &channels, bunches);
             if round % 3 == 0 {
