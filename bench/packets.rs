@@ -11,6 +11,16 @@ use vrf_net::bunch::RawBunchHeader;
 use vrf_net::packet::RawPacketReader;
 use vrf_net::types::ChannelCloseReason;
 
+// The crate timing's function: one bunch over tables that were tested. Nothing checks these lines against its source.
+unsafe extern "C" {
+    #[rustfmt::skip]
+    fn timing_read_bunch(
+        packet: *const u8, n: usize, id: u32, at: u64, max_channels: usize, sequences: usize, partials: usize,
+        sequence_channels: *mut u32, i: usize, sequence_numbers: *mut u32, j: usize, partial_channels: *mut u32, k: usize,
+        partial_sequences: *mut u32, l: usize, partial_reliables: *mut u32, m: usize, out: *mut BunchOut,
+    );
+}
+
 const BUNCHES: usize = 15_000;
 
 struct Packets {
@@ -105,7 +115,7 @@ fn rust(packets: &Packets, reader: &mut RawPacketReader) -> u64 {
     sum
 }
 
-fn ours(packets: &Packets, columns: &mut [Vec<u32>; 5]) -> u64 {
+fn ours(packets: &Packets, columns: &mut [Vec<u32>; 5], tested: bool) -> u64 {
     let n = packets.channels;
     columns[1][..n].fill(0);
     let [a, b, c, d, e] = columns.each_mut().map(Vec::as_mut_ptr);
@@ -116,10 +126,13 @@ fn ours(packets: &Packets, columns: &mut [Vec<u32>; 5]) -> u64 {
     for (id, packet) in packets.list.iter().enumerate() {
         let (mut at, mut counted) = (0, 0);
         loop {
+            let (bytes, n) = (packet.as_ptr(), packet.len());
             unsafe {
-                gritwheel_read_bunch(
-                    packet.as_ptr(), packet.len(), id as i32, at, k, sequences, partials, a, k, b, k, c, k, d, k, e, k, &mut out,
-                );
+                if tested {
+                    timing_read_bunch(bytes, n, id as u32, at, k, sequences, partials, a, k, b, k, c, k, d, k, e, k, &mut out);
+                } else {
+                    gritwheel_read_bunch(bytes, n, id as i32, at, k, sequences, partials, a, k, b, k, c, k, d, k, e, k, &mut out);
+                }
             }
             (at, sequences, partials) = (out[4], out[9] as usize, out[10] as usize);
             counted += out[5] + out[7];
@@ -142,7 +155,9 @@ pub fn run(timing: &Timing) {
             reader.in_reliable_sequence.insert(channel, 0);
             columns[0][channel as usize] = channel;
         }
-        let name = format!("read_bunch, {channels} channels, by the public call");
-        timing.compare(&name, packets.bunches, || rust(&packets, &mut reader), || ours(&packets, &mut columns));
+        for (how, tested) in [("inner", true), ("by the public call", false)] {
+            let name = format!("read_bunch, {channels} channels, {how}");
+            timing.compare(&name, packets.bunches, || rust(&packets, &mut reader), || ours(&packets, &mut columns, tested));
+        }
     }
 }

@@ -1,6 +1,6 @@
 // The library's calls for C and Rust: numbers and slices in, each answer as seven words (specs/Words.antt), a walk's as eight
 // (specs/Walks.antt), the packet reader's as 34 (specs/Packets.antt).
-mod bunches;
+pub mod bunches;
 pub mod copies;
 pub mod packets;
 pub mod reads;

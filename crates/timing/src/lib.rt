@@ -13,6 +13,8 @@ use bitio::inner::copy;
 use bitio::inner::masks;
 use bitio::windows;
 
+pub mod packets;
+
 #[no_mangle]
 pub extern "C" fn timing_read_bit(
     bytes: &[u8],

@@ -1,0 +1,2 @@
+// The packet reader, timed over tables that were tested.
+pub mod inner;

@@ -1,0 +1,51 @@
+// One bunch over tables that the caller has tested, for bench/ to time: what the test costs is the difference to the public call.
+ghost use mathlib.Core.Path.{_≡_};
+ghost use Prim.Native.Nat.{_≤_};
+ghost use lib.ListN.{length};
+ghost use Rattle.packet.specs.Packet.{dataBits, nextBunch};
+ghost use Rattle.packet.specs.Memory.{memory, channelsOf};
+ghost use Rattle.packet.specs.Fits.{State};
+ghost use Rattle.packet.specs.Answers.{reply};
+ghost use Rattle.exports.specs.Packets.{bunchWords};
+use exports::bunches;
+use exports::bunches::BunchWords;
+use packet::Reader;
+use packet::inner::read;
+
+#[no_mangle]
+pub extern "C" fn timing_read_bunch(
+    packet: &[u8],
+    id: u32,
+    at: u64,
+    max_channels: usize,
+    sequences: usize,
+    partials: usize,
+    sequence_channels: &mut [u32],
+    sequence_numbers: &mut [u32],
+    partial_channels: &mut [u32],
+    partial_sequences: &mut [u32],
+    partial_reliables: &mut [u32],
+    out: &mut BunchWords,
+)
+    requires { ⌜ State «max_channels» sequences partials (memory (now «sequence_channels») (now «sequence_numbers») (now «partial_channels») (now «partial_sequences») (now «partial_reliables»)) × (length (now packet) ≤ 65535) × (at ≤ dataBits (now packet)) ⌝ }
+    ensures answers { λ r. ⌜ now (out .exit) ≡ bunchWords (reply (nextBunch «max_channels» (now (packet .entry)) id at (channelsOf sequences partials (memory (now («sequence_channels» .entry)) (now («sequence_numbers» .entry)) (now («partial_channels» .entry)) (now («partial_sequences» .entry)) (now («partial_reliables» .entry))))) (memory (now («sequence_channels» .entry)) (now («sequence_numbers» .entry)) (now («partial_channels» .entry)) (now («partial_sequences» .entry)) (now («partial_reliables» .entry)))) ⌝ }
+    ensures leaves { λ r. ⌜ memory (now («sequence_channels» .exit)) (now («sequence_numbers» .exit)) (now («partial_channels» .exit)) (now («partial_sequences» .exit)) (now («partial_reliables» .exit)) ≡ reply (nextBunch «max_channels» (now (packet .entry)) id at (channelsOf sequences partials (memory (now («sequence_channels» .entry)) (now («sequence_numbers» .entry)) (now («partial_channels» .entry)) (now («partial_sequences» .entry)) (now («partial_reliables» .entry))))) (memory (now («sequence_channels» .entry)) (now («sequence_numbers» .entry)) (now («partial_channels» .entry)) (now («partial_sequences» .entry)) (now («partial_reliables» .entry))) .memory ⌝ }
+{
+    let read = read::read(
+        packet,
+        id,
+        at,
+        Reader {
+            max_channels,
+            sequences,
+            partials,
+        },
+        sequence_channels,
+        sequence_numbers,
+        partial_channels,
+        partial_sequences,
+        partial_reliables,
+    );
+    let answer = bunches::of_read(read);
+    *out = answer;
+}
