@@ -8,12 +8,11 @@ use bitio::U32;
 use bitio::U64;
 use bitio::Window;
 use bitio::WindowBit;
-use bitio::inner;
 use bitio::inner::copy;
 use bitio::inner::masks;
 use bitio::windows;
 
-pub mod packets;
+pub mod inner;
 
 #[no_mangle]
 pub extern "C" fn timing_read_bit(
@@ -36,7 +35,7 @@ pub extern "C" fn timing_read_bit(
             let mut sum: u64 = 0;
             let mut k: u64 = 0;
             while k < n {
-                let read = inner::bit(bytes, w);
+                let read = bitio::inner::bit(bytes, w);
                 let answer = read.answer;
                 match answer {
                     Bit::Refused(_) => {
@@ -80,7 +79,7 @@ pub extern "C" fn timing_read_bits(
                 if width > 64 {
                     return sum;
                 }
-                let read = inner::bits(bytes, &masks, w, width);
+                let read = bitio::inner::bits(bytes, &masks, w, width);
                 let answer = read.answer;
                 match answer {
                     U64::Refused(_) => {
@@ -119,7 +118,7 @@ pub extern "C" fn timing_read_int_packed(
             let mut sum: u64 = 0;
             let mut k: u64 = 0;
             while k < n {
-                let read = inner::packed(bytes, w);
+                let read = bitio::inner::packed(bytes, w);
                 let answer = read.answer;
                 match answer {
                     U32::Refused(_) => {
@@ -162,7 +161,7 @@ pub extern "C" fn timing_read_serialized_int(
                 if max == 0 {
                     return sum;
                 }
-                let read = inner::serialized(bytes, w, max);
+                let read = bitio::inner::serialized(bytes, w, max);
                 let answer = read.answer;
                 match answer {
                     U32::Refused(_) => {
@@ -209,7 +208,7 @@ pub extern "C" fn timing_copy(
                 }
                 let start = w.start;
                 let position = w.position;
-                let read = inner::skip(w, count);
+                let read = bitio::inner::skip(w, count);
                 let answer = read.answer;
                 match answer {
                     Done::Refused(_) => {

@@ -1,2 +1,0 @@
-// The packet reader, timed over tables that were tested.
-pub mod inner;
