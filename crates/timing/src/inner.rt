@@ -4,7 +4,7 @@ ghost use Prim.Native.Nat.{_≤_};
 ghost use lib.ListN.{length};
 ghost use Rattle.packet.specs.Packet.{dataBits, nextBunch};
 ghost use Rattle.packet.specs.Memory.{memory, channelsOf};
-ghost use Rattle.packet.specs.Fits.{State};
+ghost use Rattle.packet.specs.State.{State};
 ghost use Rattle.packet.specs.Answers.{reply};
 ghost use Rattle.exports.specs.Packets.{bunchWords};
 use exports::bunches;
