@@ -12,8 +12,6 @@ use bitio::inner::copy;
 use bitio::inner::masks;
 use bitio::windows;
 
-pub mod inner;
-
 #[no_mangle]
 pub extern "C" fn timing_read_bit(
     bytes: &[u8],

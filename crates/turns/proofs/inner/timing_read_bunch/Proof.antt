@@ -1,8 +1,8 @@
 -- The words of what the call answers, and what it left in the tables.
 use borrow.Author.Needs.{needs}
 use Rattle.exports.proofs.Told.{told-bunch}
-use Rattle.timing.proofs.inner.timing_read_bunch.Statement.{statement}
-use Rattle.timing.proofs.inner.timing_read_bunch.Tie as tie
+use Rattle.turns.proofs.inner.timing_read_bunch.Statement.{statement}
+use Rattle.turns.proofs.inner.timing_read_bunch.Tie as tie
 
 returns : tie.Need-returns
 returns c =

@@ -1,0 +1,2 @@
+// A turn of the packet reader for bench/ to time. In a library of its own: beside it the loops of crates/timing are compiled otherwise.
+pub mod inner;
