@@ -10,7 +10,7 @@ use Rattle.log.specs.declared.Entry.{Entry}
 use Rattle.log.specs.declared.Version.{Version}
 use Rattle.log.specs.Log.{versionOf, entryAt}
 use Rattle.log.proofs.Steps.{within}
-use Rattle.listing.specs.declared.input.Part.{Part}
+use Rattle.listing.specs.declared.inner.input.Part.{Part}
 use Rattle.tables.specs.Columns.{ascending}
 use Rattle.packet.specs.Memory.{Memory, memory}
 use Rattle.channels.specs.Fits.{Fits}

@@ -20,7 +20,7 @@ use Rattle.channels.proofs.Kept.{sequences-back, partials-back}
 use Rattle.lines.specs.Lines.{written, lineRoom}
 use Rattle.lines.specs.Puts.{Put}
 use Rattle.lines.proofs.Texts.{written-append}
-use Rattle.listing.specs.declared.packets.Sums.{Sums}
+use Rattle.listing.specs.declared.inner.packets.Sums.{Sums}
 use Rattle.listing.specs.Listing.{textOf, goesOn, sums, raised, raisedBy, Listed, after, closing, closed, readAt, listedFrom, listed}
 use Rattle.listing.specs.Turns.{answerText, answerGoesOn, Few, packetRoom, Tells}
 use Rattle.listing.proofs.Moving.{Moves, bits-most, moves}

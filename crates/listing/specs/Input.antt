@@ -5,7 +5,7 @@ use mathlib.Core.List.{List}
 use lib.IntN.{ℤ}
 use lib.ListN.{length, getD}
 use Rattle.log.specs.declared.Entry.{Entry}
-use Rattle.listing.specs.declared.input.Part.{Part}
+use Rattle.listing.specs.declared.inner.input.Part.{Part}
 
 pub record Held (buffer : List ℕ) (part : Part) : Type 0 where
   pub inside : part .held ≤ length buffer

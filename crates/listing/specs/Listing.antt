@@ -11,7 +11,7 @@ use Rattle.packet.specs.Packet.{Channels, Outcome, bunch, end, malformed, Read,
 use Rattle.lines.specs.declared.BunchLine.{BunchLine}
 use Rattle.lines.specs.Lines.{bunchLine, packetLine, versionLine, cutLine}
 use Rattle.log.specs.Log.{Packet, Ending, whole, otherVersion, cut, logOf}
-use Rattle.listing.specs.declared.packets.Sums.{Sums}
+use Rattle.listing.specs.declared.inner.packets.Sums.{Sums}
 
 -- what a bunch's line shows of its header
 abbrev pub lineOf : RawBunchHeader → BunchLine

@@ -8,8 +8,8 @@ use Rattle.packet.specs.declared.Bunch.{Bunch}
 use Rattle.packet.specs.Memory.{Memory, channelsOf}
 use Rattle.packet.specs.State.{State}
 use Rattle.lines.specs.Lines.{bunchLine, written}
-use Rattle.listing.specs.declared.packets.Sums.{Sums}
-use Rattle.listing.specs.declared.packets.Told.{Told}
+use Rattle.listing.specs.declared.inner.packets.Sums.{Sums}
+use Rattle.listing.specs.declared.inner.packets.Told.{Told}
 use Rattle.listing.specs.Listing.{Listed, lineOf}
 
 abbrev pub answerText : Bunch → List ℕ

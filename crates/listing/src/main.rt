@@ -2,10 +2,7 @@
 ghost use mathlib.Core.Path.{_≡_};
 ghost use lib.ListN.{length};
 
-mod input;
-mod output;
-mod packets;
-mod run;
+mod inner;
 
 // A record has at most 65,541 bytes; with more room fewer reads and slides are needed.
 fn input_room() -> [u8; 262144]
@@ -36,7 +33,7 @@ fn main() {
     let mut partial_channels = column();
     let mut partial_sequences = column();
     let mut partial_reliables = column();
-    run::list(
+    inner::run::list(
         &mut buffer,
         &mut out,
         &mut sequence_channels,

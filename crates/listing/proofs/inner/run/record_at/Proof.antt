@@ -2,8 +2,8 @@
 use native.Mathlib.Omega.{arith}
 use Rattle.listing.proofs.Going.{short-packet}
 use borrow.Author.Needs.{needs}
-use Rattle.listing.proofs.run.record_at.Statement.{statement}
-use Rattle.listing.proofs.run.record_at.Tie as tie
+use Rattle.listing.proofs.inner.run.record_at.Statement.{statement}
+use Rattle.listing.proofs.inner.run.record_at.Tie as tie
 
 returns : tie.Need-returns
 returns c =

@@ -4,8 +4,8 @@ use Prim.Native.Nat.{_-_, _≤_}
 use native.Mathlib.Omega.{arith}
 use borrow.Author.Needs.{needs}
 use Rattle.listing.proofs.Sliding.{Sliding, begins, one-more}
-use Rattle.listing.proofs.input.slide.Statement.{statement}
-use Rattle.listing.proofs.input.slide.Tie as tie
+use Rattle.listing.proofs.inner.input.slide.Statement.{statement}
+use Rattle.listing.proofs.inner.input.slide.Tie as tie
 
 abbrev Inv-loop : tie.InvT-loop
 Inv-loop buffer₀ at held left i₀ buffer i = (i ≤ left) × Sliding at buffer₀ i buffer

@@ -2,8 +2,8 @@
 use mathlib.Core.Path.{refl}
 use Rattle.listing.proofs.Telling.{no-text}
 use borrow.Author.Needs.{needs}
-use Rattle.listing.proofs.packets.show.Statement.{statement}
-use Rattle.listing.proofs.packets.show.Tie as tie
+use Rattle.listing.proofs.inner.packets.show.Statement.{statement}
+use Rattle.listing.proofs.inner.packets.show.Tie as tie
 
 returns : tie.Need-returns
 returns c =

@@ -1,8 +1,8 @@
 -- What is left is compared.
 use native.Mathlib.Omega.{arith}
 use borrow.Author.Needs.{needs}
-use Rattle.listing.proofs.output.with_room.Statement.{statement}
-use Rattle.listing.proofs.output.with_room.Tie as tie
+use Rattle.listing.proofs.inner.output.with_room.Statement.{statement}
+use Rattle.listing.proofs.inner.output.with_room.Tie as tie
 
 returns-2 : tie.Need-returns-2
 returns-2 c = record { left = omega arith }

@@ -6,8 +6,8 @@ use Rattle.packet.specs.Memory.{memory}
 use Rattle.listing.proofs.Telling.{same-sizes}
 use Rattle.listing.proofs.Going.{Going, lies}
 use borrow.Author.Needs.{needs}
-use Rattle.listing.proofs.run.records.Statement.{statement}
-use Rattle.listing.proofs.run.records.Tie as tie
+use Rattle.listing.proofs.inner.run.records.Statement.{statement}
+use Rattle.listing.proofs.inner.run.records.Tie as tie
 
 abbrev Inv-loop : tie.InvT-loop
 Inv-loop buffer₀ out₀ sequence-channels₀ sequence-numbers₀ partial-channels₀ partial-sequences₀ partial-reliables₀ part₀ at₀ used₀ sequences₀ partials₀ turns₀ buffer out sequence-channels sequence-numbers partial-channels partial-sequences partial-reliables part at used sequences partials turns =

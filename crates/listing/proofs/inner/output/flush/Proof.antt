@@ -2,8 +2,8 @@
 use native.Mathlib.Omega.{arith}
 use lib.ListN.{length-take}
 use borrow.Author.Needs.{needs}
-use Rattle.listing.proofs.output.flush.Statement.{statement}
-use Rattle.listing.proofs.output.flush.Tie as tie
+use Rattle.listing.proofs.inner.output.flush.Statement.{statement}
+use Rattle.listing.proofs.inner.output.flush.Tie as tie
 
 slice-aggregate-write-all : tie.Need-slice-aggregate-write-all
 slice-aggregate-write-all c = simp length-take (omega arith)

@@ -4,8 +4,8 @@ use native.Mathlib.Omega.{arith}
 use lib.ListN.{length-take}
 use Rattle.listing.proofs.Going.{has-a-byte}
 use borrow.Author.Needs.{needs}
-use Rattle.listing.proofs.run.list.Statement.{statement}
-use Rattle.listing.proofs.run.list.Tie as tie
+use Rattle.listing.proofs.inner.run.list.Statement.{statement}
+use Rattle.listing.proofs.inner.run.list.Tie as tie
 
 slice-aggregate-version : tie.Need-slice-aggregate-version
 slice-aggregate-version c = simp length-take (omega (arith, c .before .before .before .refill .ensures .inside))
