@@ -6,15 +6,16 @@ ghost use Rattle.listing.specs.Turns.{packetRoom, PacketRoom};
 use libc::STDERR_FILENO;
 use libc::STDOUT_FILENO;
 
-// Whether all was written; where not, standard error says so.
-pub fn flush(out: &[u8], used: usize) -> bool
+// How many bytes then wait: none, whether or not all was written. Where not, standard error says so.
+pub fn flush(out: &[u8], used: usize) -> usize
     requires { ⌜ used ≤ length (now out) ⌝ }
+    ensures { λ r. ⌜ r ≡ 0 ⌝ }
 {
     let written = io::write_all(STDOUT_FILENO, &out[..used]);
     if !written {
         io::write_all(STDERR_FILENO, b"standard output can't be written\n");
     }
-    written
+    0
 }
 
 // A write that failed is told once, and the lines after it are lost.
@@ -23,8 +24,7 @@ pub fn with_room(out: &[u8], used: usize) -> usize
     ensures { λ r. ⌜ PacketRoom (now (out .entry)) r ⌝ }
 {
     if out.len() - used < 1735680 {
-        flush(out, used);
-        return 0;
+        return flush(out, used);
     }
     used
 }

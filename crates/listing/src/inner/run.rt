@@ -60,8 +60,9 @@ fn records(
     partial_channels: &mut [u32],
     partial_sequences: &mut [u32],
     partial_reliables: &mut [u32],
-)
+) -> Reader
     requires { ⌜ Held (now buffer) first × (1 ≤ first .held) × PacketRoom (now out) 0 × State 4096 0 0 (memory (now «sequence_channels») (now «sequence_numbers») (now «partial_channels») (now «partial_sequences») (now «partial_reliables»)) ⌝ }
+    ensures { λ r. ⌜ State 4096 (r .sequences) (r .partials) (memory (now («sequence_channels» .exit)) (now («sequence_numbers» .exit)) (now («partial_channels» .exit)) (now («partial_sequences» .exit)) (now («partial_reliables» .exit))) ⌝ }
 {
     let mut part = first;
     let mut at: usize = 1;
@@ -107,12 +108,22 @@ fn records(
             at = 0;
             if part.held == left {
                 finish(out, used, left, part.before);
-                return;
+                return Reader {
+                    max_channels: 4096,
+                    sequences,
+                    partials,
+                };
             }
         }
     }
+    Reader {
+        max_channels: 4096,
+        sequences,
+        partials,
+    }
 }
 
+// The tables are sound to the end.
 pub fn list(
     buffer: &mut [u8],
     out: &mut [u8],
@@ -121,14 +132,26 @@ pub fn list(
     partial_channels: &mut [u32],
     partial_sequences: &mut [u32],
     partial_reliables: &mut [u32],
-)
+) -> Reader
     requires { ⌜ PacketRoom (now out) 0 × State 4096 0 0 (memory (now «sequence_channels») (now «sequence_numbers») (now «partial_channels») (now «partial_sequences») (now «partial_reliables»)) ⌝ }
+    ensures { λ r. ⌜ State 4096 (r .sequences) (r .partials) (memory (now («sequence_channels» .exit)) (now («sequence_numbers» .exit)) (now («partial_channels» .exit)) (now («partial_sequences» .exit)) (now («partial_reliables» .exit))) ⌝ }
 {
+    let none = Reader {
+        max_channels: 4096,
+        sequences: 0,
+        partials: 0,
+    };
     let part = input::refill(buffer, Part { before: 0, held: 0 }, 0);
     let held = part.held;
     match log::reading::version(&buffer[..held]) {
-        Version::Missing => cut(out, 0, 0),
-        Version::Other(version) => other_version(out, version),
+        Version::Missing => {
+            cut(out, 0, 0);
+            none
+        }
+        Version::Other(version) => {
+            other_version(out, version);
+            none
+        }
         Version::Ours => records(
             buffer,
             out,

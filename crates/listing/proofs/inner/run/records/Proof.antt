@@ -123,6 +123,12 @@ same-length-13 c = c .before .loop .inv .sizes .partial-sequences
 same-length-14 : tie.Need-same-length-14 Inv-loop μ-loop
 same-length-14 c = c .before .loop .inv .sizes .partial-reliables
 
+returns : tie.Need-returns Inv-loop μ-loop
+returns c = c .before .before .before .before .before .before .before .before .before .before .before .before .before .before .loop .inv .state
+
+returns-2 : tie.Need-returns-2 Inv-loop μ-loop
+returns-2 c = c .before .loop .inv .state
+
 pub records-spec : {M : Type 1} → statement M
 records-spec =
     tie.close
@@ -152,7 +158,7 @@ records-spec =
     same-length-5
     same-length-6
     same-length-7
-    (λ c. search needs)
+    returns
     loop-less-2
     loop-again-2
     same-length-8
@@ -162,4 +168,4 @@ records-spec =
     same-length-12
     same-length-13
     same-length-14
-    (λ c. search needs))
+    returns-2)
