@@ -1,0 +1,4 @@
+pub mod Bits
+pub mod Header
+pub mod Answers
+pub mod Words

@@ -1,0 +1,40 @@
+-- Bits as a word: what the contracts of `inner` name. A reader of the public calls can pass over it.
+use Prim.Native.Nat.{_^_, _<_}
+use mathlib.Core.Bool.{Bool, false}
+use mathlib.Core.List.{List, _++_}
+use Rattle.types.specs.Types.{closeReasonMaximum, payloadMaximum}
+use Rattle.header.specs.declared.BunchFields.{BunchFields}
+use Rattle.writer.specs.declared.inner.Bits.{Bits}
+use Rattle.writer.specs.Bits.{bitsOf, onlyIf, packedBits, serializedBits}
+use Rattle.writer.specs.Header.{control, named, flag}
+
+abbrev pub spelt : Bits → List Bool
+spelt b = bitsOf (b .count) (b .word)
+
+-- no bit above those that count
+pub record Whole (b : Bits) : Type 0 where
+  pub within : b .word < 2 ^ b .count
+
+-- the header up to its channel
+unfoldable pub front : BunchFields → List Bool
+front f =
+    flag (control f)
+    ++ (onlyIf (control f) (flag (f .«b_open»))
+    ++ (onlyIf (control f) (flag (f .«b_close»))
+    ++ (onlyIf (f .«b_close») (serializedBits closeReasonMaximum (f .«close_reason»))
+    ++ (flag (f .«b_is_replication_paused»)
+    ++ (flag (f .«b_reliable»)
+    ++ packedBits (f .«ch_index»))))))
+
+-- and after it
+unfoldable pub back : BunchFields → List Bool
+back f =
+    flag (f .«b_has_package_map_exports»)
+    ++ (flag (f .«b_has_must_be_mapped_guids»)
+    ++ (flag (f .«b_partial»)
+    ++ (flag false
+    ++ (onlyIf (f .«b_partial») (flag (f .«b_partial_initial»))
+    ++ (onlyIf (f .«b_partial») (flag (f .«b_partial_final»))
+    ++ (onlyIf (named f) (flag false)
+    ++ (onlyIf (named f) (packedBits 0)
+    ++ serializedBits payloadMaximum (f .«payload_bit_count»))))))))

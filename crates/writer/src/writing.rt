@@ -1,0 +1,1 @@
+// The public calls: a bunch at a cursor, and the end mark.
