@@ -10,7 +10,7 @@ use crate::inner::masks::MaskTable;
 use crate::inner::words;
 
 // The m lowest bytes of a word.
-fn store(target: &mut [u8], at: usize, word: u64, m: usize)
+pub fn store(target: &mut [u8], at: usize, word: u64, m: usize)
     requires { ⌜ at + m ≤ length (now target) ⌝ }
     ensures { λ r. ⌜ now (target .exit) ≡ stored (now (target .entry)) at word m ⌝ }
 {

@@ -1,0 +1,54 @@
+-- A bunch in three pieces: the header's two words, and the payload.
+use Prim.Native.Nat.{ℕ, _+_, _<_}
+use mathlib.Core.Path.{_≡_, sym, ap, ap₂, _∙_}
+use mathlib.Core.Bool.{Bool}
+use mathlib.Core.List.{List, _∷_, _++_, append-assoc}
+use native.Mathlib.Omega.{arith}
+use lib.ListN.{length, length-append}
+use Rattle.header.specs.declared.BunchFields.{BunchFields}
+use Rattle.writer.specs.declared.inner.Bits.{Bits}
+use Rattle.writer.specs.Bits.{bitsOf, bitsFrom, put}
+use Rattle.writer.specs.Header.{headerBits}
+use Rattle.writer.specs.Words.{spelt, Adds, nothing, front, back}
+use Rattle.writer.proofs.Lists.{length-bitsOf, length-bitsFrom, put-append}
+
+pub in-two : (f : BunchFields) → headerBits f ≡ front f ++ back f
+unfolding headerBits front back
+in-two f = simp append-assoc
+
+-- bits that are spelt are not none
+spelt-some : (q : Bits) {b : Bool} {bits : List Bool} → spelt q ≡ b ∷ bits → 0 < q .count
+spelt-some q e = omega (arith, length-bitsOf (q .count) (q .word), ap length e)
+
+pub front-some : (f : BunchFields) {m : ℕ} {q : Bits} → Adds m nothing (front f) q → 0 < q .count
+unfolding front bitsOf
+front-some f {q = q} a = spelt-some q (a .spells)
+
+pub back-some : (f : BunchFields) {m : ℕ} {q : Bits} → Adds m nothing (back f) q → 0 < q .count
+unfolding back bitsOf
+back-some f {q = q} a = spelt-some q (a .spells)
+
+module _ (f : BunchFields) (d : List ℕ) (n : ℕ) {l m : ℕ} {u v : Bits} (a : Adds l nothing (front f) u) (b : Adds m nothing (back f) v) where
+  spelt-front : spelt u ≡ front f
+  unfolding bitsOf
+  spelt-front = a .spells
+
+  spelt-back : spelt v ≡ back f
+  unfolding bitsOf
+  spelt-back = b .spells
+
+  whole : headerBits f ++ bitsFrom d 0 n ≡ spelt u ++ (spelt v ++ bitsFrom d 0 n)
+  whole = rw (in-two f, ← spelt-front, ← spelt-back) (append-assoc (spelt u) (spelt v) (bitsFrom d 0 n))
+
+  pub length-bunch : length (headerBits f ++ bitsFrom d 0 n) ≡ u .count + v .count + n
+  length-bunch =
+      rw whole
+      (omega (arith, length-append (spelt u) (spelt v ++ bitsFrom d 0 n), length-append (spelt v) (bitsFrom d 0 n), length-bitsOf (u .count) (u .word), length-bitsOf (v .count) (v .word), length-bitsFrom d 0 n))
+
+  pub put-bunch : (p : List ℕ) (at : ℕ) → put (put (put p at (spelt u)) (at + u .count) (spelt v)) (at + u .count + v .count) (bitsFrom d 0 n) ≡ put p at (headerBits f ++ bitsFrom d 0 n)
+  put-bunch p at =
+      sym
+      (ap (put p at) whole
+      ∙ put-append p at (spelt u) (spelt v ++ bitsFrom d 0 n)
+      ∙ put-append (put p at (spelt u)) (at + length (spelt u)) (spelt v) (bitsFrom d 0 n)
+      ∙ ap₂ (λ (i j : ℕ). put (put (put p at (spelt u)) (at + i) (spelt v)) (at + i + j) (bitsFrom d 0 n)) (length-bitsOf (u .count) (u .word)) (length-bitsOf (v .count) (v .word)))

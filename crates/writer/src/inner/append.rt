@@ -1,0 +1,44 @@
+// A bunch after what is written, where there is room for it.
+ghost use mathlib.Core.Path.{_≡_};
+ghost use mathlib.Core.List.{_++_};
+ghost use Prim.Native.Nat.{_+_, _*_, _≤_, _<_};
+ghost use lib.ListN.{length};
+ghost use Rattle.writer.specs.Bits.{bitsFrom, put};
+ghost use Rattle.writer.specs.Header.{headerBits};
+ghost use Rattle.writer.specs.Words.{spelt, Piece};
+ghost use Rattle.writer.specs.Answers.{replied, added};
+use crate::WriteError;
+use crate::Written;
+use crate::inner::Bits;
+use crate::inner::push;
+use crate::inner::room;
+use crate::inner::words;
+use bitio::PacketBit;
+use header::BunchFields;
+
+// The header's two words, and the payload.
+fn lay(packet: &mut [u8], at: u64, front: Bits, back: Bits, payload: &[u8], count: u64)
+    requires { ⌜ Piece front × Piece back × (count ≤ 8 * length (now payload)) × (at + front .count + back .count + count ≤ 8 * length (now packet)) × (at + front .count + back .count + count ≤ 524280) ⌝ }
+    ensures { λ r. ⌜ now (packet .exit) ≡ put (put (put (now (packet .entry)) at (spelt front)) (at + front .count) (spelt back)) (at + front .count + back .count) (bitsFrom (now (payload .entry)) 0 count) ⌝ }
+{
+    push::push(packet, at, front);
+    push::push(packet, at + front.count, back);
+    push::payload(packet, at + front.count + back.count, payload, count);
+}
+
+pub fn append(f: BunchFields, payload: &[u8], packet: &mut [u8], at: u64) -> Written
+    requires { ⌜ (f .«close_reason» < 7) × (f .«payload_bit_count» ≤ 16383) × (f .«payload_bit_count» ≤ 8 * length (now payload)) ⌝ }
+    ensures { λ r. ⌜ replied r (now (packet .exit)) ≡ added (headerBits f ++ bitsFrom (now (payload .entry)) 0 (f .«payload_bit_count»)) (now (packet .entry)) at (at + length (headerBits f ++ bitsFrom (now (payload .entry)) 0 (f .«payload_bit_count»))) ⌝ }
+{
+    let front = words::front(f);
+    let back = words::back(f);
+    let count = f.payload_bit_count as u64;
+    let more = front.count + back.count + count;
+    if room::none_for(packet.len(), at, more) {
+        return Written::Refused(WriteError::NoRoom {
+            bits: room::bits_with(at, more),
+        });
+    }
+    lay(packet, at, front, back, payload, count);
+    Written::To(PacketBit(at + more))
+}

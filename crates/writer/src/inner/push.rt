@@ -1,0 +1,70 @@
+// Bits into a packet, whole bytes at a time: those of a word, and those of a payload.
+ghost use mathlib.Core.Path.{_≡_};
+ghost use Prim.Native.Nat.{_+_, _*_, _%_, _≤_, _<_, _^_, min};
+ghost use lib.ListN.{length};
+ghost use Rattle.writer.specs.Bits.{bitsFrom, put};
+ghost use Rattle.writer.specs.Words.{spelt, Whole};
+use crate::inner::Bits;
+use bitio::inner::copy;
+use bitio::inner::words;
+
+// The n lowest bits of a word.
+fn low(word: u64, n: u64) -> u64
+    requires { ⌜ n < 64 ⌝ }
+    ensures { λ r. ⌜ (r ≡ word % 2 ^ n) × (r < 2 ^ n) ⌝ }
+{
+    word & ((1 << n) - 1)
+}
+
+// A word's bits at bit `at`: the byte there is joined with what stands before the cursor.
+pub fn push(packet: &mut [u8], at: u64, bits: Bits)
+    requires { ⌜ Whole bits × (0 < bits .count) × (at % 8 + bits .count ≤ 64) × (at + bits .count ≤ 8 * length (now packet)) ⌝ }
+    ensures { λ r. ⌜ now (packet .exit) ≡ put (now (packet .entry)) at (spelt bits) ⌝ }
+{
+    let place = (at / 8) as usize;
+    let off = at % 8;
+    let kept = low(packet[place] as u64, off);
+    copy::store(
+        packet,
+        place,
+        kept + (bits.word << off),
+        ((off + bits.count + 7) / 8) as usize,
+    );
+}
+
+fn least(a: u64, b: u64) -> u64
+    ensures { λ r. ⌜ r ≡ min a b ⌝ }
+{
+    if a < b { a } else { b }
+}
+
+// The payload's next bits, and how many they were: eight whole bytes where the cursor is at a byte's start, else what brings
+// it to one, or to the payload's end.
+fn step(packet: &mut [u8], at: u64, payload: &[u8], from: u64, left: u64) -> u64
+    requires { ⌜ (0 < left) × (from + left ≤ 8 * length (now payload)) × (at + left ≤ 8 * length (now packet)) ⌝ }
+    ensures reached { λ r. ⌜ (0 < r) × (r ≤ left) ⌝ }
+    ensures leaves { λ r. ⌜ now (packet .exit) ≡ put (now (packet .entry)) at (bitsFrom (now (payload .entry)) from r) ⌝ }
+{
+    let off = at % 8;
+    if off == 0 {
+        if left >= 64 {
+            copy::store(packet, (at / 8) as usize, words::word_at(payload, from), 8);
+            return 64;
+        }
+    }
+    let count = least(left, 56 - off);
+    let word = low(words::peek(payload, from), count);
+    push(packet, at, Bits { word, count });
+    count
+}
+
+// The first `count` bits of a payload.
+pub fn payload(packet: &mut [u8], at: u64, payload: &[u8], count: u64)
+    requires { ⌜ (count ≤ 8 * length (now payload)) × (at + count ≤ 8 * length (now packet)) × (at + count ≤ 524280) ⌝ }
+    ensures { λ r. ⌜ now (packet .exit) ≡ put (now (packet .entry)) at (bitsFrom (now (payload .entry)) 0 count) ⌝ }
+{
+    let mut done = 0;
+    while done < count {
+        done += step(packet, at + done, payload, done, count - done);
+    }
+}
