@@ -1,1 +1,7 @@
 pub mod DeskChecks
+pub mod Rows
+pub mod Marks
+pub mod Keeping
+pub mod Steps
+pub mod OneBunch
+pub mod RoundTrip

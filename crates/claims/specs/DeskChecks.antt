@@ -7,7 +7,7 @@ use Rattle.bitio.specs.declared.Window.{Window}
 use Rattle.bitio.specs.Parse.{Answer, got, refused, Parse}
 use Rattle.bitio.specs.Reads.{readPacked, readSerialized}
 use Rattle.bitio.specs.Windows.{front}
-use Rattle.packet.specs.Packet.{Outcome, bunch, end, malformed, Read, nextBunch}
+use Rattle.packet.specs.Packet.{Outcome, bunch, end, malformed, nextBunch}
 use Rattle.field.specs.Walks.{Stop, ended, tail, abandoned, Walked, parseRepLayout, parseClassNetCache}
 
 -- values and how many bits were read, after a 0; or the refusal's number, what it returns, and where the reader then stands

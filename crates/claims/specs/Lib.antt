@@ -1,1 +1,2 @@
 pub mod DeskChecks
+pub mod RoundTrip

@@ -1,0 +1,56 @@
+-- After any reading call a sound state is sound again: a refusal changes nothing, and else the tables are laid in order.
+use Prim.Native.Nat.{ℕ}
+use mathlib.Core.Path.{_≡_}
+use mathlib.Core.Bool.{Bool, true, false, cond}
+use mathlib.Core.List.{List}
+use lib.Dec.{ltb}
+use lib.IntN.{ℤ}
+use lib.ListN.{length}
+use mir.Syntax.{w32}
+use mir.Val.{ofZ}
+use borrow.Author.Tests.{le-leb}
+use Rattle.types.specs.Types.{mostChannels}
+use Rattle.packet.specs.declared.Reader.{Reader}
+use Rattle.packet.specs.Packet.{dataBits}
+use Rattle.packet.specs.Memory.{Memory, fit, sound}
+use Rattle.packet.specs.State.{State}
+use Rattle.packet.specs.Answers.{Reply, readBunch}
+use Rattle.packet.proofs.Soundness.{state}
+use Rattle.packet.proofs.Lasting.{state-after}
+use Rattle.claims.specs.RoundTrip.{after}
+
+abbrev pub Sound : Reader → Memory → Type 0
+Sound r m = sound (r .«max_channels») (r .sequences) (r .partials) m ≡ true
+
+tested : {limit s p : ℕ} {m : Memory} → State limit s p m → sound limit s p m ≡ true
+unfolding sound fit
+tested {limit} {s} {p} {m} x =
+    rw (
+      le-leb limit mostChannels (x .sequences .few),
+      le-leb limit (length (m .sequenceChannels)) (x .sequences .room),
+      le-leb limit (length (m .sequenceNumbers)) (x .numbers),
+      le-leb limit (length (m .partialChannels)) (x .partials .room),
+      le-leb limit (length (m .partialSequences)) (x .partial-sequences),
+      le-leb limit (length (m .partialReliables)) (x .partial-reliables),
+      le-leb s limit (x .sequences .live-fits),
+      le-leb p limit (x .partials .live-fits),
+      x .sequences .ascends,
+      x .partials .ascends,
+    )
+
+-- a call has left a sound state
+pub record Left (r : Reader) (x : Reply) : Type 0 where
+  pub lasts : Sound (after r x) (x .memory)
+
+module _ (r : Reader) where
+  either : (b : Bool) {x y : Reply} → Left r x → Left r y → Left r (cond b x y)
+  either true f g = f
+  either false f g = g
+
+  pub left : (d : List ℕ) (id : ℤ) (at : ℕ) (m : Memory) → Sound r m → Left r (readBunch d id at r m)
+  unfolding readBunch
+  left d id at m h =
+      either (sound (r .«max_channels») (r .sequences) (r .partials) m)
+      (either (ltb 65535 (length d)) (record { lasts = h })
+      (either (ltb (dataBits d) at) (record { lasts = h })
+      (record { lasts = tested (state-after (state (r .«max_channels») (r .sequences) (r .partials) m h) d (ofZ w32 id) at) }))) (record { lasts = h })
