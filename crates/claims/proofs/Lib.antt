@@ -5,3 +5,4 @@ pub mod Keeping
 pub mod Steps
 pub mod OneBunch
 pub mod RoundTrip
+pub mod Example

@@ -12,3 +12,4 @@ pub mod Puts
 pub mod Allowed
 pub mod Bunches
 pub mod Accepted
+pub mod Determined
