@@ -1,0 +1,4 @@
+pub mod Pastes
+pub mod Payloads
+pub mod Packed
+pub mod Arena

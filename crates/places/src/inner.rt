@@ -1,0 +1,96 @@
+// A place put in or taken out, bytes moved and copied, and a payload's bits as bytes.
+ghost use mathlib.Core.Path.{_≡_};
+ghost use Prim.Native.Nat.{_+_, _%_, _≤_, _<_, _^_};
+ghost use lib.ListN.{length, take};
+ghost use Rattle.tables.specs.Columns.{laid, insertedAt, removedAt};
+ghost use Rattle.places.specs.Bytes.{pasted, part, bytesOf, payloadBytes};
+use crate::Place;
+
+pub fn insert_place(places: &mut [Place], live: usize, at: usize, p: Place)
+    requires { ⌜ (at ≤ live) × (live < length (now places)) ⌝ }
+    ensures { λ r. ⌜ now (places .exit) ≡ laid (insertedAt at p (take live (now (places .entry)))) (now (places .entry)) ⌝ }
+{
+    let mut i = live;
+    while at < i {
+        places[i] = places[i - 1];
+        i -= 1;
+    }
+    places[at] = p;
+}
+
+// The place that falls vacant keeps what stood there.
+pub fn remove_place(places: &mut [Place], live: usize, at: usize)
+    requires { ⌜ (at < live) × (live ≤ length (now places)) ⌝ }
+    ensures { λ r. ⌜ now (places .exit) ≡ laid (removedAt at (take live (now (places .entry)))) (now (places .entry)) ⌝ }
+{
+    let mut i = at;
+    while i + 1 < live {
+        places[i] = places[i + 1];
+        i += 1;
+    }
+}
+
+fn move_down(arena: &mut [u8], from: usize, to: usize, n: usize)
+    requires { ⌜ (to ≤ from) × (from + n ≤ length (now arena)) ⌝ }
+    ensures { λ r. ⌜ now (arena .exit) ≡ pasted to (part from n (now (arena .entry))) (now (arena .entry)) ⌝ }
+{
+    let mut i: usize = 0;
+    while i < n {
+        arena[to + i] = arena[from + i];
+        i += 1;
+    }
+}
+
+fn move_up(arena: &mut [u8], from: usize, to: usize, n: usize)
+    requires { ⌜ (from ≤ to) × (to + n ≤ length (now arena)) ⌝ }
+    ensures { λ r. ⌜ now (arena .exit) ≡ pasted to (part from n (now (arena .entry))) (now (arena .entry)) ⌝ }
+{
+    let mut i = n;
+    while 0 < i {
+        i -= 1;
+        arena[to + i] = arena[from + i];
+    }
+}
+
+// From the end that is written over last; what stays where it is costs nothing.
+pub fn move_bytes(arena: &mut [u8], from: usize, to: usize, n: usize)
+    requires { ⌜ (from + n ≤ length (now arena)) × (to + n ≤ length (now arena)) ⌝ }
+    ensures { λ r. ⌜ now (arena .exit) ≡ pasted to (part from n (now (arena .entry))) (now (arena .entry)) ⌝ }
+{
+    if to < from {
+        move_down(arena, from, to, n);
+    } else if from < to {
+        move_up(arena, from, to, n);
+    }
+}
+
+pub fn copy_bytes(src: &[u8], from: usize, n: usize, out: &mut [u8], at: usize)
+    requires { ⌜ (from + n ≤ length (now src)) × (at + n ≤ length (now out)) ⌝ }
+    ensures { λ r. ⌜ now (out .exit) ≡ pasted at (part from n (now (src .entry))) (now (out .entry)) ⌝ }
+{
+    let mut i: usize = 0;
+    while i < n {
+        out[at + i] = src[from + i];
+        i += 1;
+    }
+}
+
+fn low(byte: u8, n: u64) -> u8
+    requires { ⌜ n < 8 ⌝ }
+    ensures { λ r. ⌜ r ≡ byte % 2 ^ n ⌝ }
+{
+    byte % (1 << n)
+}
+
+// The spare high bits of the last byte may be anything in src; in out they are zero.
+pub fn put_payload(src: &[u8], bits: u64, out: &mut [u8], at: usize)
+    requires { ⌜ (bytesOf bits ≤ length (now src)) × (at + bytesOf bits ≤ length (now out)) ⌝ }
+    ensures { λ r. ⌜ now (out .exit) ≡ pasted at (payloadBytes bits (now (src .entry))) (now (out .entry)) ⌝ }
+{
+    let whole = (bits / 8) as usize;
+    let rest = bits % 8;
+    copy_bytes(src, 0, whole, out, at);
+    if 0 < rest {
+        out[at + whole] = low(src[whole], rest);
+    }
+}

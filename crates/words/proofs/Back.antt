@@ -1,0 +1,62 @@
+-- A header comes back from its words. The weight lies in the signed fields.
+use mathlib.Core.Path.{_≡_, refl, ap, _∙_}
+use mathlib.Core.Bool.{Bool, true, false, not}
+use Prim.Native.Nat.{suc, _-_, _%_, _^_, _<_}
+use native.Mathlib.Omega.{arith}
+use lib.Dec.{eqb}
+use lib.IntN.{ℤ, pos, negsuc}
+use mir.Syntax.{w32}
+use mir.Val.{SFits, ofZ, boolByte}
+use mir.ValLaws.{ofZ-fits}
+use borrow.Author.Tests.{lt-ltb, le-ltb}
+use Rattle.bitio.specs.Floats.{signed}
+use Rattle.types.specs.Types.{reasonOf}
+use Rattle.types.specs.declared.ChannelCloseReason.{ChannelCloseReason}
+use Rattle.types.specs.declared.PartialSequenceKind.{PartialSequenceKind}
+use Rattle.types.specs.declared.RawBunchHeader.{RawBunchHeader}
+use Rattle.words.specs.Words.{reasonWord, kindWord, headerWords, kindOf, headerFrom}
+
+-- each number within its field's type
+pub record InRange (h : RawBunchHeader) : Type 0 where
+  pub packet-id : SFits w32 (h .«packet_id»)
+  pub ch-index : h .«ch_index» < 2 ^ 32
+  pub ch-sequence : SFits w32 (h .«ch_sequence»)
+  pub payload-bit-count : h .«payload_bit_count» < 2 ^ 32
+  pub payload-bit-offset : h .«payload_bit_offset» < 2 ^ 64
+
+signed-word : (z : ℤ) → SFits w32 z → signed (ofZ w32 z) ≡ z
+unfolding signed
+signed-word (pos n) f = let h : n < 2 ^ 31 = f .sfits in rw (lt-ltb n (2 ^ 31) h)
+signed-word (negsuc n) f =
+    let h : n < 2 ^ 31 = f .sfits in
+    let e : 2 ^ 32 - 1 - (2 ^ 32 - suc n) ≡ n = omega (arith, h) in
+    rw (le-ltb (2 ^ 32 - suc n) (2 ^ 31) (omega (arith, h)), e)
+
+signed-back : (z : ℤ) → SFits w32 z → signed (ofZ w32 z % 2 ^ 32) ≡ z
+signed-back z f =
+    let e : ofZ w32 z % 2 ^ 32 ≡ ofZ w32 z = omega (arith, ofZ-fits w32 z f .fits) in
+    ap signed e ∙ signed-word z f
+
+reason-back : (r : ChannelCloseReason) → reasonOf (reasonWord r) ≡ r
+unfolding reasonOf
+reason-back ChannelCloseReason.Destroyed = refl
+reason-back ChannelCloseReason.Dormancy = refl
+
+kind-back : (k : PartialSequenceKind) → kindOf (kindWord k) ≡ k
+unfolding kindOf
+kind-back PartialSequenceKind.None = refl
+kind-back PartialSequenceKind.MissingInitial = refl
+kind-back PartialSequenceKind.OverlappingInitial = refl
+kind-back PartialSequenceKind.MismatchedContinuation = refl
+kind-back PartialSequenceKind.NonByteAlignedFragment = refl
+
+flag-back : (b : Bool) → not (eqb (boolByte b) 0) ≡ b
+flag-back true = refl
+flag-back false = refl
+
+pub back : (h : RawBunchHeader) → InRange h → headerFrom (headerWords h) ≡ h
+unfolding headerFrom
+back h f =
+    let channel : h .«ch_index» % 2 ^ 32 ≡ h .«ch_index» = omega arith in
+    let bits : h .«payload_bit_count» % 2 ^ 32 ≡ h .«payload_bit_count» = omega arith in
+    simp (signed-back (h .«packet_id») (f .packet-id), signed-back (h .«ch_sequence») (f .ch-sequence), channel, bits, reason-back, kind-back, flag-back)
