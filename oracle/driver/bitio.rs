@@ -7,7 +7,8 @@ pub mod inputs;
 pub mod ours;
 #[cfg(not(ours))]
 pub mod records;
-pub mod shown;
+#[cfg(ours)]
+mod shown;
 
 /// The numbers are those of the recorded answers.
 #[derive(Clone, Copy, PartialEq, Eq, Debug)]

@@ -4,26 +4,50 @@ use std::cell::Cell;
 use std::panic::{AssertUnwindSafe, catch_unwind};
 use std::time::Instant;
 
-pub trait Case: Clone {
-    type Answer: Default + PartialEq;
+/// How an input and its answer are shown, and what simpler inputs there are.
+pub trait Shown: Sized {
+    type Answer;
+
+    /// Simpler inputs to try, the simplest first. Each must be smaller by some measure, so that shrinking ends.
+    fn simpler(&self) -> Vec<Self>;
+    /// Lines, each ended.
+    fn input_in_words(&self) -> String;
+    fn answer_in_words(&self, answer: &Self::Answer) -> String;
+}
+
+pub trait Case: Clone + Shown<Answer: Default + PartialEq> {
+    /// The ways to answer that aren't refusals.
+    const CASES: &[&str];
 
     /// What the Rust answers or, outside its domain, document 01.
     fn expected(&self, answer: &mut Self::Answer);
     /// `room` is memory kept from call to call, for what ours is lent.
     fn ours(&self, answer: &mut Self::Answer, room: &mut Vec<u8>);
     fn call(&self) -> usize;
-    /// Which of the ways to answer this is: below OUTCOMES, and what it is called.
-    fn outcome(answer: &Self::Answer) -> usize;
-    fn outcome_name(outcome: usize) -> String;
-    /// Simpler inputs to try, the simplest first. Each must be smaller by some measure, so that shrinking ends.
-    fn simpler(&self) -> Vec<Self>;
-    /// Lines, each ended.
-    fn input_in_words(&self) -> String;
-    fn answer_in_words(&self, answer: &Self::Answer) -> String;
     fn name(call: usize) -> &'static str;
+    /// 0 or the refusal's number, and with 0 which of CASES it is.
+    fn told(answer: &Self::Answer) -> (u64, u64);
+
+    /// Which of the ways to answer this is: below OUTCOMES, and what it is called.
+    fn outcome(answer: &Self::Answer) -> usize {
+        match Self::told(answer) {
+            (0, case) => FIRST_CASE + case as usize,
+            (number, _) => number as usize,
+        }
+    }
+
+    fn outcome_name(outcome: usize) -> String {
+        match outcome.checked_sub(FIRST_CASE) {
+            Some(case) => Self::CASES[case].into(),
+            None => format!("refusal {outcome}"),
+        }
+    }
 }
 
-pub const OUTCOMES: usize = 32;
+/// Outcomes from here on are cases, those below refusals.
+const FIRST_CASE: usize = 20;
+
+const OUTCOMES: usize = 32;
 
 pub struct Comparing<C: Case> {
     expected: C::Answer,

@@ -36,3 +36,7 @@ pub fn data(bytes: &[u8]) -> String {
 pub fn window([start, position, length]: Window) -> String {
     format!("  window    start {start}, position {position}, length {length}\n")
 }
+
+pub fn damage(what: Option<&str>) -> String {
+    what.map_or(String::new(), |what| format!("; DAMAGED: {what}"))
+}

@@ -2,13 +2,13 @@
 
 use super::Call::*;
 use super::expected::expected;
-use super::{Answer, CALLS, Case, NO_FLOAT, shown};
+use super::{Answer, CALLS, Case, NO_FLOAT};
 use crate::abi::*;
 use crate::compare;
-use crate::lent::{PATTERN, UNWRITTEN, changed, lent};
+use crate::lent::{PATTERN, UNWRITTEN, changed, guarded, lent, unguarded};
 
-/// Bytes before and after a lent target, to see writes past it.
-const GUARD: usize = 8;
+/// Before and after a lent target, to see writes past it.
+const GUARD: [u8; 8] = [PATTERN; 8];
 
 fn once(case: &Case, data: &[u8], target: &mut [u8], beside: &mut u64, out: &mut Out) {
     let (bytes, n) = (data.as_ptr(), data.len());
@@ -60,22 +60,17 @@ fn told(case: &Case, number: u64, out: &mut Out) {
 
 /// The call with a target, which stands between guards.
 fn copy(case: &Case, data: &[u8], answer: &mut Answer, out: &mut Out) {
-    let m = case.target.len();
     let Answer { bytes, beside, .. } = answer;
-    bytes.extend_from_slice(&[PATTERN; GUARD]);
-    bytes.extend_from_slice(&case.target);
-    bytes.extend_from_slice(&[PATTERN; GUARD]);
-    let target = &mut bytes[GUARD..GUARD + m];
+    guarded(bytes, case.target.iter().copied(), &GUARD);
+    let target = &mut bytes[GUARD.len()..][..case.target.len()];
     once(case, data, target, beside, out);
-    if bytes[..GUARD] != [PATTERN; GUARD] || bytes[GUARD + m..] != [PATTERN; GUARD] {
+    if !unguarded(bytes, &GUARD) {
         answer.damage = Some("memory around the target");
     }
-    bytes.copy_within(GUARD..GUARD + m, 0);
-    bytes.truncate(m);
 }
 
 impl compare::Case for Case {
-    type Answer = Answer;
+    const CASES: &[&str] = &["value"];
 
     fn expected(&self, answer: &mut Answer) {
         expected(self, answer);
@@ -99,27 +94,11 @@ impl compare::Case for Case {
         self.call as usize
     }
 
-    fn outcome(answer: &Answer) -> usize {
-        answer.words[0] as usize
-    }
-
-    fn outcome_name(outcome: usize) -> String {
-        if outcome == 0 { "value".into() } else { format!("refusal {outcome}") }
-    }
-
-    fn simpler(&self) -> Vec<Self> {
-        shown::simpler(self)
-    }
-
-    fn input_in_words(&self) -> String {
-        shown::input(self)
-    }
-
-    fn answer_in_words(&self, answer: &Answer) -> String {
-        shown::answer(self, answer)
-    }
-
     fn name(call: usize) -> &'static str {
         CALLS[call - 1].1
+    }
+
+    fn told(answer: &Answer) -> (u64, u64) {
+        (answer.words[0], 0)
     }
 }

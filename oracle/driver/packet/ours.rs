@@ -1,13 +1,13 @@
 // Our answers: the C functions called with the same input, and the memory that they must leave alone looked at.
 
 use super::expected::expected;
-use super::{Answer, Call, Case, Words, shown};
+use super::{Answer, Call, Case, Words};
 use crate::abi::*;
 use crate::compare;
-use crate::lent::{PATTERN, UNWRITTEN, changed, lent};
+use crate::lent::{PATTERN, UNWRITTEN, changed, guarded, lent, unguarded};
 
 /// A place before and after each lent column, to see writes past it.
-const GUARD: u32 = u32::from_ne_bytes([PATTERN; 4]);
+const GUARD: [u32; 1] = [u32::from_ne_bytes([PATTERN; 4])];
 
 fn opened(case: &Case, columns: &mut [Vec<u32>; 5], words: &mut Words) {
     let [a, b, c, d, e] = columns.each_ref().map(|column| column[1..].as_ptr());
@@ -32,7 +32,7 @@ fn read(case: &Case, packet: &[u8], columns: &mut [Vec<u32>; 5], words: &mut Wor
 }
 
 impl compare::Case for Case {
-    type Answer = Answer;
+    const CASES: &[&str] = &["bunch or opened", "end", "malformed"];
 
     fn expected(&self, answer: &mut Answer) {
         expected(self, answer);
@@ -42,10 +42,7 @@ impl compare::Case for Case {
         let Answer { words, columns, damage } = answer;
         let packet = lent(&self.packet, room);
         for (column, before) in columns.iter_mut().zip(&self.columns) {
-            column.clear();
-            column.push(GUARD);
-            column.extend_from_slice(before);
-            column.push(GUARD);
+            guarded(column, before.iter().copied(), &GUARD);
         }
         match self.call {
             Call::WithMaxChannels => opened(self, columns, words),
@@ -53,10 +50,9 @@ impl compare::Case for Case {
         }
         *damage = changed(packet, &self.packet);
         for column in columns {
-            if column.pop() != Some(GUARD) || column.first() != Some(&GUARD) {
+            if !unguarded(column, &GUARD) {
                 *damage = Some("memory around a column");
             }
-            column.remove(0);
         }
     }
 
@@ -64,36 +60,11 @@ impl compare::Case for Case {
         self.call as usize
     }
 
-    /// A refusal's number, or 20 and the case.
-    fn outcome(answer: &Answer) -> usize {
-        match answer.words[0] {
-            0 => 20 + answer.words[3] as usize,
-            number => number as usize,
-        }
-    }
-
-    fn outcome_name(outcome: usize) -> String {
-        match outcome {
-            20 => "bunch or opened".into(),
-            21 => "end".into(),
-            22 => "malformed".into(),
-            number => format!("refusal {number}"),
-        }
-    }
-
-    fn simpler(&self) -> Vec<Self> {
-        shown::simpler(self)
-    }
-
-    fn input_in_words(&self) -> String {
-        shown::input(self)
-    }
-
-    fn answer_in_words(&self, answer: &Answer) -> String {
-        shown::answer(answer)
-    }
-
     fn name(call: usize) -> &'static str {
         if call == Call::ReadBunch as usize { "read_bunch" } else { "with_max_channels" }
+    }
+
+    fn told(answer: &Answer) -> (u64, u64) {
+        (answer.words[0], answer.words[3])
     }
 }

@@ -1,6 +1,7 @@
 // An input and its answers in words, and simpler inputs.
 
 use super::{Answer, Case};
+use crate::compare::Shown;
 use crate::{shrink, text};
 
 const NAMES: [&str; 5] = ["channels", "sequences", "partial channels", "partial sequences", "reliables"];
@@ -12,24 +13,6 @@ fn columns(columns: &[Vec<u32>; 5]) -> String {
         format!("            {name} {}{more}\n", shown.join(" "))
     };
     NAMES.iter().zip(columns).map(line).collect()
-}
-
-pub fn answer(Answer { words, columns: after, damage }: &Answer) -> String {
-    let [number, a, b, case, next, bunches, malformed, partial_errors, channel_limit, sequences, partials, bunch @ ..] = words;
-    let mut text = format!("number {number}, returns {a}, {b}; case {case}; next {next}; ");
-    text += &format!("rises {bunches}, {malformed}, {partial_errors}, {channel_limit}; live {sequences}, {partials}\n");
-    text += &format!("            header and window {bunch:?}\n{}", columns(after));
-    match damage {
-        Some(what) => text + "            DAMAGED: " + what,
-        None => text,
-    }
-}
-
-pub fn input(case: &Case) -> String {
-    let mut text = format!("  call      {:?}\n", case.call);
-    text += &text::data(&case.packet);
-    text += &format!("  id        {}, cursor {}, limit {}, live {:?}\n", case.id, case.at, case.limit, case.live);
-    text + &columns(&case.columns)
 }
 
 /// Without a live place of a table.
@@ -44,19 +27,38 @@ fn without(case: &Case, table: usize, index: usize) -> Case {
     fewer
 }
 
-pub fn simpler(case: &Case) -> Vec<Case> {
-    let mut list = Vec::new();
-    list.extend(shrink::smaller_bytes(&case.packet).into_iter().map(|packet| Case { packet, ..case.clone() }));
-    list.extend(shrink::smaller(case.at).into_iter().map(|at| Case { at, ..case.clone() }));
-    if case.id > 0 {
-        list.extend(shrink::smaller(case.id as u64).into_iter().map(|id| Case { id: id as i32, ..case.clone() }));
-    }
-    list.extend(shrink::smaller(case.limit as u64).into_iter().map(|limit| Case { limit: limit as usize, ..case.clone() }));
-    let fits = case.columns.iter().all(|column| case.live.iter().all(|&live| live <= column.len()));
-    if fits {
-        for table in [0, 1] {
-            list.extend((0..case.live[table].min(64)).map(|index| without(case, table, index)));
+impl Shown for Case {
+    type Answer = Answer;
+
+    fn simpler(&self) -> Vec<Case> {
+        let mut list = Vec::new();
+        list.extend(shrink::smaller_bytes(&self.packet).into_iter().map(|packet| Case { packet, ..self.clone() }));
+        list.extend(shrink::smaller(self.at).into_iter().map(|at| Case { at, ..self.clone() }));
+        if self.id > 0 {
+            list.extend(shrink::smaller(self.id as u64).into_iter().map(|id| Case { id: id as i32, ..self.clone() }));
         }
+        list.extend(shrink::smaller(self.limit as u64).into_iter().map(|limit| Case { limit: limit as usize, ..self.clone() }));
+        let fits = self.columns.iter().all(|column| self.live.iter().all(|&live| live <= column.len()));
+        if fits {
+            for table in [0, 1] {
+                list.extend((0..self.live[table].min(64)).map(|index| without(self, table, index)));
+            }
+        }
+        list
     }
-    list
+
+    fn input_in_words(&self) -> String {
+        let mut text = format!("  call      {:?}\n", self.call);
+        text += &text::data(&self.packet);
+        text += &format!("  id        {}, cursor {}, limit {}, live {:?}\n", self.id, self.at, self.limit, self.live);
+        text + &columns(&self.columns)
+    }
+
+    fn answer_in_words(&self, Answer { words, columns: after, damage }: &Answer) -> String {
+        let [number, a, b, case, next, bunches, malformed, partial_errors, channel_limit, sequences, partials, bunch @ ..] = words;
+        let mut text = format!("number {number}, returns {a}, {b}; case {case}; next {next}; ");
+        text += &format!("rises {bunches}, {malformed}, {partial_errors}, {channel_limit}; live {sequences}, {partials}\n");
+        text += &format!("            header and window {bunch:?}\n{}", columns(after));
+        text + &text::damage(*damage)
+    }
 }
