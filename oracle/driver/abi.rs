@@ -1,7 +1,7 @@
-// The C functions of our static library, as the driver and the timing program call them.
+// The C functions of our static libraries, as the driver and the timing program call them.
 //
 // A window is start, position, length. An `Out` has 7 words: 0 or the refusal's number, three words of the value or
-// of the refusal, and the window afterwards. Nothing checks these lines against the library's source.
+// of the refusal, and the window afterwards. Nothing checks these lines against the libraries' sources.
 
 pub type Out = [u64; 7];
 
@@ -13,6 +13,9 @@ pub type ReaderOut = [u64; 4];
 
 /// A reading call's (crates/exports/specs/Packets.antt).
 pub type BunchOut = [u64; 34];
+
+/// A writing call's: 0 and up to which bit the packet is written, or the refusal's number and what it returns.
+pub type WriteOut = [u64; 3];
 
 macro_rules! reads {
     ($out:ty; $($name:ident($($argument:ident: $kind:ty),*);)*) => {
@@ -44,6 +47,14 @@ unsafe extern "C" {
         sequence_channels: *mut u32, i: usize, sequence_numbers: *mut u32, j: usize, partial_channels: *mut u32, k: usize,
         partial_sequences: *mut u32, l: usize, partial_reliables: *mut u32, m: usize, out: *mut BunchOut,
     );
+    #[rustfmt::skip]
+    pub fn gritwheel_write_bunch(
+        ch_index: u32, b_open: bool, b_close: bool, b_dormant: bool, dormancy: bool, b_is_replication_paused: bool,
+        b_reliable: bool, b_partial: bool, b_partial_initial: bool, b_partial_final: bool, b_has_package_map_exports: bool,
+        b_has_must_be_mapped_guids: bool, payload: *const u8, n: usize, count: u64, packet: *mut u8, m: usize, at: u64,
+        out: *mut WriteOut,
+    );
+    pub fn gritwheel_close_packet(packet: *mut u8, m: usize, at: u64, out: *mut WriteOut);
 }
 
 reads! {

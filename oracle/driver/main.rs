@@ -21,6 +21,7 @@ mod random;
 mod shrink;
 mod text;
 mod window;
+mod writer;
 
 struct Given {
     long: bool,
@@ -52,6 +53,7 @@ fn run(given: &Given) {
     bitio::inputs::Inputs::new(given.seed, given.share, given.long).run();
     field::inputs::Inputs::new(given.seed, given.share, given.long).run();
     packet::inputs::Inputs::new(given.seed, given.share, given.long).run();
+    writer::inputs::Inputs::new(given.seed, given.share, given.long).run();
 }
 
 #[cfg(not(ours))]
@@ -59,6 +61,7 @@ fn run(given: &Given) {
     bitio::records::print(given.record);
     field::records::print(given.record * 2 / 5);
     packet::records::print(given.record / 2);
+    writer::records::print(given.record / 5);
 }
 
 fn main() {
