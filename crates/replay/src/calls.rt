@@ -1,6 +1,7 @@
 // Our calls by their numbers in the list.
 use crate::packets;
 use crate::walks;
+use crate::writes;
 use exports::copies;
 use exports::reads;
 use exports::windows;
@@ -35,6 +36,7 @@ pub(crate) fn run(call: u8, data: &[u8], given: Given, target: &mut [u8], answer
         ),
         22..=24 => walks::run(call, data, given, target, answer),
         26 => packets::run(data, given, target, answer),
+        27 | 28 => writes::run(call, data, given, target, answer),
         _ => (),
     }
 }

@@ -8,6 +8,7 @@ mod packets;
 mod record;
 mod report;
 mod walks;
+mod writes;
 
 // Whether nothing is left to read. It is not so where the list is too long for the array or where a read failed.
 fn at_end() -> bool {
