@@ -14,6 +14,8 @@ mod inputs;
 mod loops;
 #[cfg(singles)]
 mod packets;
+#[cfg(writes)]
+mod pushers;
 #[allow(dead_code)]
 #[path = "../oracle/driver/random.rs"]
 mod random;
@@ -22,6 +24,8 @@ mod singles;
 mod timing;
 #[cfg(singles)]
 mod walks;
+#[cfg(writes)]
+mod writes;
 
 use timing::Timing;
 
@@ -51,4 +55,6 @@ fn main() {
         walks::run(&timing);
         packets::run(&timing);
     }
+    #[cfg(writes)]
+    writes::run(&timing);
 }

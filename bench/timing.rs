@@ -31,9 +31,25 @@ impl Timing {
     }
 
     /// Each side does `operations` operations and answers a number over all its results.
-    pub fn compare(&self, name: &str, operations: usize, mut rust: impl FnMut() -> u64, mut ours: impl FnMut() -> u64) {
+    pub fn compare(&self, name: &str, operations: usize, rust: impl FnMut() -> u64, ours: impl FnMut() -> u64) {
+        if let Some((first, second, ratio)) = self.measured(name, rust, ours) {
+            let scale = 1e9 / operations as f64;
+            println!("{name:<44}{:>10.2}{:>10.2}{ratio:>8.2}", first * scale, second * scale);
+        }
+    }
+
+    /// Each side writes so many bytes; MB/s of each.
+    pub fn rates(&self, name: &str, bytes: u64, rust: impl FnMut() -> u64, ours: impl FnMut() -> u64) {
+        if let Some((first, second, ratio)) = self.measured(name, rust, ours) {
+            let megabytes = bytes as f64 / 1e6;
+            println!("{name:<44}{:>5.0} MB/s{:>5.0} MB/s{ratio:>8.2}", megabytes / first, megabytes / second);
+        }
+    }
+
+    /// The seconds of each side, and ours over the Rust's; None where the case isn't wanted.
+    fn measured(&self, name: &str, mut rust: impl FnMut() -> u64, mut ours: impl FnMut() -> u64) -> Option<(f64, f64, f64)> {
         if !name.contains(&self.only) {
-            return;
+            return None;
         }
         let (expected, found) = (rust(), ours());
         if expected != found {
@@ -58,7 +74,6 @@ impl Timing {
             second.push(b);
             ratios.push(b / a);
         }
-        let scale = 1e9 / (times as f64 * operations as f64);
-        println!("{name:<44}{:>10.2}{:>10.2}{:>8.2}", middle(first) * scale, middle(second) * scale, middle(ratios));
+        Some((middle(first) / times as f64, middle(second) / times as f64, middle(ratios)))
     }
 }
