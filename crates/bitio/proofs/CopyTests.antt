@@ -4,16 +4,16 @@ use mathlib.Core.List.{List}
 use Prim.Native.Nat.{ℕ, _*_, _-_, _≤_}
 use lib.Dec.{ltb}
 use borrow.Author.Tests.{ltb-false}
-use Rattle.bitio.specs.declared.Window.{Window}
-use Rattle.bitio.specs.declared.BitError.{BitError}
-use Rattle.bitio.specs.declared.Done.{Done}
-use Rattle.bitio.specs.Refusals.{placeOf, tooFewBits, beyond}
-use Rattle.bitio.specs.Parse.{_>>_, refuseIf}
-use Rattle.bitio.specs.Reads.{need, passed, skip}
-use Rattle.bitio.specs.Copies.{copied, copyBits, copyLeaves}
-use Rattle.bitio.specs.Answers.{doneAnswer}
-use Rattle.bitio.specs.Sound.{Sound}
-use Rattle.bitio.proofs.Rows.{ahead}
+use Rattle.window.specs.declared.Window.{Window}
+use Rattle.window.specs.declared.BitError.{BitError}
+use Rattle.window.specs.declared.Done.{Done}
+use Rattle.window.specs.Refusals.{placeOf, tooFewBits, beyond}
+use Rattle.window.specs.Parse.{_>>_, refuseIf}
+use Rattle.window.specs.Reads.{need, passed, skip}
+use Rattle.window.specs.Copies.{copied, copyBits, copyLeaves}
+use Rattle.window.specs.Answers.{doneAnswer}
+use Rattle.window.specs.Sound.{Sound}
+use Rattle.window.proofs.Rows.{ahead}
 use Rattle.bitio.proofs.Tests.{passes}
 
 pub record Copyable (d : List ℕ) (w : Window) (room n : ℕ) : Type 0 where

@@ -3,34 +3,34 @@ use mathlib.Core.Path.{_≡_, refl, ap, sym, _∙_}
 use mathlib.Core.Bool.{cond}
 use lib.Dec.{eqb}
 use lib.ListN.{getD}
-use Rattle.bitio.specs.declared.Place.{Place}
-use Rattle.bitio.specs.declared.Window.{Window}
-use Rattle.bitio.specs.declared.BitError.{BitError}
-use Rattle.bitio.specs.declared.BitError.the-variants.{Eof, MalformedIntPacked, IntPackedOverflow, InvalidSerializedIntMax, InvalidBitLength, InvalidWidth, DataTooLong}
-use Rattle.bitio.specs.declared.Done.{Done}
-use Rattle.bitio.specs.declared.DoneRead.{DoneRead}
-use Rattle.bitio.specs.declared.Bit.{Bit}
-use Rattle.bitio.specs.declared.BitRead.{BitRead}
-use Rattle.bitio.specs.declared.U8.{U8}
-use Rattle.bitio.specs.declared.U8Read.{U8Read}
-use Rattle.bitio.specs.declared.U16.{U16}
-use Rattle.bitio.specs.declared.U16Read.{U16Read}
-use Rattle.bitio.specs.declared.U32.{U32}
-use Rattle.bitio.specs.declared.U32Read.{U32Read}
-use Rattle.bitio.specs.declared.I32.{I32}
-use Rattle.bitio.specs.declared.I32Read.{I32Read}
-use Rattle.bitio.specs.declared.U64.{U64}
-use Rattle.bitio.specs.declared.U64Read.{U64Read}
-use Rattle.bitio.specs.declared.F32.{F32}
-use Rattle.bitio.specs.declared.F32Read.{F32Read}
-use Rattle.bitio.specs.declared.F64.{F64}
-use Rattle.bitio.specs.declared.F64Read.{F64Read}
-use Rattle.bitio.specs.declared.Opened.{Opened}
-use Rattle.bitio.specs.declared.SubRead.{SubRead}
-use Rattle.bitio.specs.Refusals.{Refusal, paper, tooFewBits, endless, tooLarge, zeroMaximum, beyond, tooWide, tooLong}
-use Rattle.bitio.specs.Parse.{Answer, got, refused, Result, value, refusal}
-use Rattle.bitio.specs.Floats.{Reading, number, noNumber}
-use Rattle.bitio.specs.Answers.{doneAnswer, bitAnswer, u8Answer, u16Answer, u32Answer, i32Answer, u64Answer, f32Answer, f64Answer, subAnswer, ofDone, ofBit, ofU8, ofU16, ofU32, ofI32, ofU64, ofF32, ofF64, ofSub, ofOpened, ofCount}
+use Rattle.window.specs.declared.Place.{Place}
+use Rattle.window.specs.declared.Window.{Window}
+use Rattle.window.specs.declared.BitError.{BitError}
+use Rattle.window.specs.declared.BitError.the-variants.{Eof, MalformedIntPacked, IntPackedOverflow, InvalidSerializedIntMax, InvalidBitLength, InvalidWidth, DataTooLong}
+use Rattle.window.specs.declared.Done.{Done}
+use Rattle.window.specs.declared.DoneRead.{DoneRead}
+use Rattle.window.specs.declared.Bit.{Bit}
+use Rattle.window.specs.declared.BitRead.{BitRead}
+use Rattle.window.specs.declared.U8.{U8}
+use Rattle.window.specs.declared.U8Read.{U8Read}
+use Rattle.window.specs.declared.U16.{U16}
+use Rattle.window.specs.declared.U16Read.{U16Read}
+use Rattle.window.specs.declared.U32.{U32}
+use Rattle.window.specs.declared.U32Read.{U32Read}
+use Rattle.window.specs.declared.I32.{I32}
+use Rattle.window.specs.declared.I32Read.{I32Read}
+use Rattle.window.specs.declared.U64.{U64}
+use Rattle.window.specs.declared.U64Read.{U64Read}
+use Rattle.window.specs.declared.F32.{F32}
+use Rattle.window.specs.declared.F32Read.{F32Read}
+use Rattle.window.specs.declared.F64.{F64}
+use Rattle.window.specs.declared.F64Read.{F64Read}
+use Rattle.window.specs.declared.Opened.{Opened}
+use Rattle.window.specs.declared.SubRead.{SubRead}
+use Rattle.window.specs.Refusals.{Refusal, paper, tooFewBits, endless, tooLarge, zeroMaximum, beyond, tooWide, tooLong}
+use Rattle.window.specs.Parse.{Answer, got, refused, Result, value, refusal}
+use Rattle.bits.specs.Floats.{Reading, number, noNumber}
+use Rattle.window.specs.Answers.{doneAnswer, bitAnswer, u8Answer, u16Answer, u32Answer, i32Answer, u64Answer, f32Answer, f64Answer, subAnswer, ofDone, ofBit, ofU8, ofU16, ofU32, ofI32, ofU64, ofF32, ofF64, ofSub, ofOpened, ofCount}
 
 -- what can be read back is determined
 pub determined : {A B : Type 0} (f : A → B) (back : B → A) → ((a : A) → back (f a) ≡ a) → (a b : A) → f a ≡ f b → a ≡ b

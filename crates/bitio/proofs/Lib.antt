@@ -1,16 +1,4 @@
-pub mod Numbers
-pub mod Loads
-pub mod Table
-pub mod Rows
 pub mod Tests
-pub mod Steps
-pub mod Packed
-pub mod Serialized
-pub mod Logs
-pub mod Copied
 pub mod Values
-pub mod Floats
 pub mod CopyTests
-pub mod Signed
 pub mod Determined
-pub mod Keeps

@@ -5,15 +5,15 @@ use Prim.Native.Nat.{ℕ, _*_, _-_, _≤_, _<_}
 use lib.Dec.{ltb}
 use lib.ListN.{length}
 use borrow.Author.Tests.{lt-ltb, le-ltb, ltb-false}
-use Rattle.bitio.specs.declared.Window.{Window}
-use Rattle.bitio.specs.declared.BitError.{BitError}
-use Rattle.bitio.specs.declared.Done.{Done}
-use Rattle.bitio.specs.Refusals.{paper, tooLong, beyond}
-use Rattle.bitio.specs.Parse.{got, refused, Parse, _>>_, give, refuse, refuseIf}
-use Rattle.bitio.specs.Reads.{largestData, dataFits, windowFits, cursorFits, sound}
-use Rattle.bitio.specs.Answers.{doneAnswer}
-use Rattle.bitio.specs.Sound.{Sound}
-use Rattle.bitio.proofs.Rows.{ahead, regroup, next-got, next-refused}
+use Rattle.window.specs.declared.Window.{Window}
+use Rattle.window.specs.declared.BitError.{BitError}
+use Rattle.window.specs.declared.Done.{Done}
+use Rattle.window.specs.Refusals.{paper, tooLong, beyond}
+use Rattle.window.specs.Parse.{got, refused, Parse, _>>_, give, refuse, refuseIf}
+use Rattle.window.specs.Reads.{largestData, dataFits, windowFits, cursorFits, sound}
+use Rattle.window.specs.Answers.{doneAnswer}
+use Rattle.window.specs.Sound.{Sound}
+use Rattle.window.proofs.Rows.{ahead, regroup, next-got, next-refused}
 
 module _ (d : List ℕ) (w : Window) where
   pub too-long : largestData < length d → sound d w ≡ refused (tooLong (length d)) w

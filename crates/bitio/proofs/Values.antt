@@ -4,16 +4,16 @@ use mathlib.Core.List.{List}
 use Prim.Native.Nat.{ℕ, _+_, _^_, _%_, _<_}
 use native.Mathlib.Nat.{mod-eq-of-lt}
 use lib.Dec.{ltb}
-use Rattle.bitio.specs.declared.Window.{Window}
-use Rattle.bitio.specs.declared.BitError.{BitError}
-use Rattle.bitio.specs.declared.U64.{U64}
-use Rattle.bitio.specs.Bits.{bitsAt}
-use Rattle.bitio.specs.Refusals.{Refusal, paper, tooWide}
-use Rattle.bitio.specs.Parse.{Parse, got, refused, _>>=_, _>>_, give, refuseIf}
-use Rattle.bitio.specs.Reads.{sound, need, taken, bits, readBits}
-use Rattle.bitio.specs.Answers.{u64Answer}
-use Rattle.bitio.proofs.Numbers.{bits-lt}
-use Rattle.bitio.proofs.Rows.{from-last, then-got, then-refused}
+use Rattle.window.specs.declared.Window.{Window}
+use Rattle.window.specs.declared.BitError.{BitError}
+use Rattle.window.specs.declared.U64.{U64}
+use Rattle.bits.specs.Bits.{bitsAt}
+use Rattle.window.specs.Refusals.{Refusal, paper, tooWide}
+use Rattle.window.specs.Parse.{Parse, got, refused, _>>=_, _>>_, give, refuseIf}
+use Rattle.window.specs.Reads.{sound, need, taken, bits, readBits}
+use Rattle.window.specs.Answers.{u64Answer}
+use Rattle.bits.proofs.Numbers.{bits-lt}
+use Rattle.window.proofs.Rows.{from-last, then-got, then-refused}
 
 module _ (d : List ℕ) (w : Window) (n : ℕ) where
   pub read-lt : {v : ℕ} {u : Window} → readBits n d w ≡ got v u → v < 2 ^ n

@@ -2,16 +2,16 @@
 ghost use mathlib.Core.Path.{_≡_};
 ghost use Prim.Native.Nat.{_+_};
 ghost use lib.ListN.{length};
-ghost use Rattle.bitio.specs.Copies.{copyBits, copyLeaves};
-ghost use Rattle.bitio.specs.Answers.{ofDone};
-use crate::BitError;
-use crate::Done;
-use crate::DoneRead;
-use crate::Window;
-use crate::inner;
-use crate::inner::copy;
-use crate::inner::masks;
+ghost use Rattle.window.specs.Copies.{copyBits, copyLeaves};
+ghost use Rattle.window.specs.Answers.{ofDone};
 use crate::windows;
+use bits::inner::masks;
+use window::BitError;
+use window::Done;
+use window::DoneRead;
+use window::Window;
+use window::inner;
+use window::inner::copy;
 
 // The copy's refusals, in document 01's order; with none, the window past its bits.
 fn judge(bytes: &[u8], w: Window, room: usize, count: u64) -> DoneRead

@@ -1,29 +1,19 @@
 // Windows over a byte slice: the Rust's `new` to `skip_remaining` where no bit is looked at, and the tests before every read.
 ghost use mathlib.Core.Path.{_≡_};
 ghost use Prim.Native.Nat.{_-_};
-ghost use Rattle.bitio.specs.Refusals.{placeOf};
-ghost use Rattle.bitio.specs.Reads.{sound};
-ghost use Rattle.bitio.specs.Windows.{newWindow, withBitLen, bitsRemaining, atEnd, subReader, skipBits, skipRemaining};
-ghost use Rattle.bitio.specs.Answers.{doneAnswer, ofDone, ofOpened, ofSub, ofCount};
-use crate::BitError;
-use crate::Done;
-use crate::DoneRead;
-use crate::Opened;
-use crate::PacketBit;
-use crate::Place;
-use crate::SubRead;
-use crate::U64;
-use crate::Window;
-use crate::WindowBit;
-use crate::inner;
-
-// The one place where a refusal's position is made.
-pub fn place_of(w: Window) -> Place
-    ensures { λ r. ⌜ r ≡ placeOf w ⌝ }
-{
-    let at = w.position;
-    Place { at }
-}
+ghost use Rattle.window.specs.Reads.{sound};
+ghost use Rattle.window.specs.Windows.{newWindow, withBitLen, bitsRemaining, atEnd, subReader, skipBits, skipRemaining};
+ghost use Rattle.window.specs.Answers.{doneAnswer, ofDone, ofOpened, ofSub, ofCount};
+use window::BitError;
+use window::Done;
+use window::DoneRead;
+use window::Opened;
+use window::PacketBit;
+use window::SubRead;
+use window::U64;
+use window::Window;
+use window::WindowBit;
+use window::inner;
 
 fn left_from(all: u64, start: u64) -> u64
     ensures { λ r. ⌜ r ≡ all - start ⌝ }

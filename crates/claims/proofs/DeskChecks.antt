@@ -1,11 +1,11 @@
 -- The definitions are run on the table.
 use mathlib.Core.Path.{refl}
 use lib.Count.{leadingZeros}
-use Rattle.bitio.specs.Bits.{bitAt, bitsAt}
-use Rattle.bitio.specs.Refusals.{endless, tooLarge, zeroMaximum}
-use Rattle.bitio.specs.Parse.{_>>=_, _>>_, give, refuse, refuseIf, readIf, place}
-use Rattle.bitio.specs.Reads.{dataFits, windowFits, cursorFits, sound, need, taken, bits, packedFrom, packed, log2, serialized, readPacked, readSerialized}
-use Rattle.bitio.specs.Reads.{bit, readBit}
+use Rattle.bits.specs.Bits.{bitAt, bitsAt}
+use Rattle.window.specs.Refusals.{endless, tooLarge, zeroMaximum}
+use Rattle.window.specs.Parse.{_>>=_, _>>_, give, refuse, refuseIf, readIf, place}
+use Rattle.window.specs.Reads.{dataFits, windowFits, cursorFits, sound, need, taken, bits, packedFrom, packed, log2, serialized, readPacked, readSerialized}
+use Rattle.window.specs.Reads.{bit, readBit}
 use Rattle.packet.specs.Packet.{dataBits, nextBunch}
 use Rattle.field.specs.Records.{remaining, payload, counted, repLayout, call, classNetCache}
 use Rattle.field.specs.Walks.{unresolved, walk, parseRepLayout, parseClassNetCache}

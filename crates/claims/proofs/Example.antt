@@ -5,9 +5,9 @@ use mathlib.Core.Bool.{Bool, true, false}
 use mathlib.Core.List.{List, [], _∷_}
 use lib.Count.{leadingZeros}
 use lib.IntN.{pos}
-use Rattle.bitio.specs.Bits.{bitAt}
-use Rattle.bitio.specs.Parse.{value}
-use Rattle.bitio.specs.Reads.{log2}
+use Rattle.bits.specs.Bits.{bitAt}
+use Rattle.window.specs.Parse.{value}
+use Rattle.window.specs.Reads.{log2}
 use Rattle.types.specs.declared.ChannelCloseReason.{ChannelCloseReason}
 use Rattle.types.specs.declared.PartialSequenceKind.{PartialSequenceKind}
 use Rattle.types.specs.declared.RawBunchHeader.{RawBunchHeader}

@@ -11,7 +11,7 @@ use lib.ListN.{length, getD, take}
 use lib.Pow.{pow-pos}
 use lib.Seq.{length-take-le, getD-take}
 use borrow.Author.Tests.{ne-eqb}
-use Rattle.bitio.specs.Bits.{bitAt}
+use Rattle.bits.specs.Bits.{bitAt}
 use Rattle.packet.specs.Packet.{lastByte, dataBits}
 use Rattle.writer.specs.Bits.{bitsFrom, put}
 use Rattle.writer.specs.Answers.{roomOf}

@@ -9,7 +9,7 @@ use lib.IntN.{ℤ}
 use lib.ListN.{length, take, length-append}
 use mir.Syntax.{w32}
 use mir.Val.{ofZ}
-use Rattle.bitio.specs.Parse.{value}
+use Rattle.window.specs.Parse.{value}
 use Rattle.packet.specs.declared.Reader.{Reader}
 use Rattle.packet.specs.Memory.{Memory, channelsOf}
 use Rattle.packet.specs.Answers.{Reply, readBunch}

@@ -6,7 +6,7 @@ use mathlib.Core.List.{List, [], _∷_, _++_, append-assoc}
 use native.Mathlib.Nat.{add-zero}
 use native.Mathlib.Omega.{arith}
 use lib.ListN.{length, length-append}
-use Rattle.bitio.specs.Parse.{Result, value, refusal}
+use Rattle.window.specs.Parse.{Result, value, refusal}
 use Rattle.writer.specs.Bits.{put}
 use Rattle.writer.specs.Header.{bunchBits, writable}
 use Rattle.writer.specs.Answers.{Reply, roomOf, writeBunch}

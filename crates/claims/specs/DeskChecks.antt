@@ -3,10 +3,10 @@ use Prim.Native.Nat.{ℕ}
 use mathlib.Core.Path.{_≡_}
 use mathlib.Core.Bool.{true, false}
 use mathlib.Core.List.{List, [], _∷_, _++_}
-use Rattle.bitio.specs.declared.Window.{Window}
-use Rattle.bitio.specs.Parse.{Answer, got, refused, Parse}
-use Rattle.bitio.specs.Reads.{readPacked, readSerialized}
-use Rattle.bitio.specs.Windows.{front}
+use Rattle.window.specs.declared.Window.{Window}
+use Rattle.window.specs.Parse.{Answer, got, refused, Parse}
+use Rattle.window.specs.Reads.{readPacked, readSerialized}
+use Rattle.window.specs.Windows.{front}
 use Rattle.packet.specs.Packet.{Outcome, bunch, end, malformed, nextBunch}
 use Rattle.field.specs.Walks.{Stop, ended, tail, abandoned, Walked, parseRepLayout, parseClassNetCache}
 

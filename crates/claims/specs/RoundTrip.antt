@@ -5,8 +5,8 @@ use mathlib.Core.Bool.{true}
 use mathlib.Core.List.{List, [], _∷_}
 use lib.IntN.{ℤ}
 use lib.ListN.{take}
-use Rattle.bitio.specs.declared.Window.{Window}
-use Rattle.bitio.specs.Parse.{Result, value, refusal}
+use Rattle.window.specs.declared.Window.{Window}
+use Rattle.window.specs.Parse.{Result, value, refusal}
 use Rattle.types.specs.declared.RawBunchHeader.{RawBunchHeader}
 use Rattle.packet.specs.declared.Reader.{Reader}
 use Rattle.packet.specs.Packet.{Outcome, bunch, end, dataBits}

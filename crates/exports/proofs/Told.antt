@@ -3,7 +3,7 @@ use Prim.Native.Nat.{ℕ}
 use mathlib.Core.Path.{_≡_, ap, refl, _∙_}
 use mathlib.Core.List.{List}
 use lib.ListN.{length}
-use Rattle.bitio.specs.Parse.{Answer, got, refused}
+use Rattle.window.specs.Parse.{Answer, got, refused}
 use Rattle.field.specs.declared.Walk.{Walk}
 use Rattle.field.specs.Walks.{Walked}
 use Rattle.field.specs.Answers.{ofWalk}

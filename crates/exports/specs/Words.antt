@@ -7,10 +7,10 @@ use lib.ListN.{getD}
 use lib.Ieee.{Float}
 use mir.Syntax.{w32}
 use mir.Val.{ofZ, boolByte}
-use Rattle.bitio.specs.declared.Window.{Window}
-use Rattle.bitio.specs.Refusals.{Refusal}
-use Rattle.bitio.specs.Parse.{Answer, got, refused, Result, value, refusal}
-use Rattle.bitio.specs.Floats.{Reading, number, noNumber}
+use Rattle.window.specs.declared.Window.{Window}
+use Rattle.window.specs.Refusals.{Refusal}
+use Rattle.window.specs.Parse.{Answer, got, refused, Result, value, refusal}
+use Rattle.bits.specs.Floats.{Reading, number, noNumber}
 
 abbrev pub windowAt : ℕ → ℕ → ℕ → Window
 windowAt s p l = record { start = record { 0 = s }; position = record { 0 = p }; length = l }

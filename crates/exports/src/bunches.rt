@@ -8,8 +8,7 @@ ghost use Rattle.packet.specs.Memory.{Memory};
 ghost use Rattle.packet.specs.Answers.{packetPaper, ofOpened, ofRead};
 ghost use Rattle.exports.specs.Words.{window};
 ghost use Rattle.exports.specs.Packets.{reasonWord, kindWord, headerWords, noBunch, bunchWords, readerWords};
-use bitio::Window;
-use bitio::inner::signed;
+use bits::inner::signed;
 use packet::Bunch;
 use packet::BunchRead;
 use packet::Opened;
@@ -17,6 +16,7 @@ use packet::PacketError;
 use types::ChannelCloseReason;
 use types::PartialSequenceKind;
 use types::RawBunchHeader;
+use window::Window;
 
 pub type ReaderWords = [u64; 4];
 

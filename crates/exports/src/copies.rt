@@ -2,7 +2,7 @@
 ghost use mathlib.Core.Path.{_≡_};
 ghost use Prim.Native.Nat.{_+_};
 ghost use lib.ListN.{length};
-ghost use Rattle.bitio.specs.Copies.{copyBits, copyLeaves};
+ghost use Rattle.window.specs.Copies.{copyBits, copyLeaves};
 ghost use Rattle.exports.specs.Words.{windowAt, words, none};
 use crate::words;
 use crate::words::Words;

@@ -6,9 +6,9 @@ ghost use Rattle.exports.specs.Packets.{bunchWords, readerWords};
 use crate::bunches;
 use crate::bunches::BunchWords;
 use crate::bunches::ReaderWords;
-use bitio::PacketBit;
 use packet::Reader;
 use packet::packets;
+use window::PacketBit;
 
 #[no_mangle]
 pub extern "C" fn gritwheel_with_max_channels(

@@ -1,6 +1,6 @@
 // Reads. Each writes the seven words of its answer.
 ghost use mathlib.Core.Path.{_≡_};
-ghost use Rattle.bitio.specs.Reads.{readBit, readBits, readI32, readF32, readF64, readPacked, readSerialized};
+ghost use Rattle.window.specs.Reads.{readBit, readBits, readI32, readF32, readF64, readPacked, readSerialized};
 ghost use Rattle.exports.specs.Words.{windowAt, words, one, flag, signedWord, pattern, float};
 use crate::words;
 use crate::words::Words;

@@ -1,6 +1,6 @@
 // Windows, and moving in them.
 ghost use mathlib.Core.Path.{_≡_};
-ghost use Rattle.bitio.specs.Windows.{newWindow, withBitLen, bitsRemaining, atEnd, subReader, skipBits, skipRemaining};
+ghost use Rattle.window.specs.Windows.{newWindow, withBitLen, bitsRemaining, atEnd, subReader, skipBits, skipRemaining};
 ghost use Rattle.exports.specs.Words.{windowAt, words, openedWords, countWords, none, window};
 use crate::words;
 use crate::words::Words;

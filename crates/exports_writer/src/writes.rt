@@ -4,10 +4,10 @@ ghost use Rattle.writer.specs.Answers.{writeBunch, closePacket};
 ghost use Rattle.exports_writer.specs.Words.{writtenWords, reasonOf, headerOf};
 use crate::words;
 use crate::words::WrittenWords;
-use bitio::PacketBit;
 use types::ChannelCloseReason;
 use types::PartialSequenceKind;
 use types::RawBunchHeader;
+use window::PacketBit;
 use writer::writing;
 
 fn reason(dormancy: bool) -> ChannelCloseReason

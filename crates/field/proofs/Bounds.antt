@@ -3,8 +3,8 @@ use mathlib.Core.Path.{_≡_, refl, sym, _∙_}
 use mathlib.Core.List.{List, [], _∷_}
 use Prim.Native.Nat.{ℕ, zero, suc, _≤_, _<_}
 use native.Mathlib.Omega.{arith}
-use Rattle.bitio.specs.declared.Window.{Window}
-use Rattle.bitio.specs.Parse.{Answer, got, refused}
+use Rattle.window.specs.declared.Window.{Window}
+use Rattle.window.specs.Parse.{Answer, got, refused}
 use Rattle.field.specs.declared.inner.Kind.{Kind}
 use Rattle.field.specs.Records.{Looked, ends, abandons, finds, bitsLeft, look}
 use Rattle.field.specs.Walks.{Walked, numbers, after, onward, walk, walked}

@@ -4,11 +4,11 @@ use mathlib.Core.Path.{_≡_, refl, ap, sym, _∙_}
 use mathlib.Core.Bool.{cond}
 use mathlib.Core.List.{List}
 use lib.Dec.{eqb}
-use Rattle.bitio.specs.declared.Window.{Window}
-use Rattle.bitio.specs.declared.BitError.{BitError}
-use Rattle.bitio.specs.declared.BitError.the-variants.{Eof, MalformedIntPacked, IntPackedOverflow, InvalidSerializedIntMax, InvalidBitLength, InvalidWidth, DataTooLong}
-use Rattle.bitio.specs.Refusals.{Refusal, paper, tooFewBits, endless, tooLarge, zeroMaximum, beyond, tooWide, tooLong}
-use Rattle.bitio.specs.Parse.{Answer, got, refused}
+use Rattle.window.specs.declared.Window.{Window}
+use Rattle.window.specs.declared.BitError.{BitError}
+use Rattle.window.specs.declared.BitError.the-variants.{Eof, MalformedIntPacked, IntPackedOverflow, InvalidSerializedIntMax, InvalidBitLength, InvalidWidth, DataTooLong}
+use Rattle.window.specs.Refusals.{Refusal, paper, tooFewBits, endless, tooLarge, zeroMaximum, beyond, tooWide, tooLong}
+use Rattle.window.specs.Parse.{Answer, got, refused}
 use Rattle.bitio.proofs.Determined.{placeAt, unpaper, unpaper-paper}
 use Rattle.field.specs.declared.FieldError.{FieldError}
 use Rattle.field.specs.declared.Stop.{Stop}

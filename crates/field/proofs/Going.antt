@@ -5,10 +5,10 @@ use Prim.Native.Nat.{ℕ, suc, _+_, _-_, _≤_, _<_}
 use native.Mathlib.Omega.{arith}
 use lib.ListN.{length, set, take, drop, length-set, take-append-drop, drop-of-length-le}
 use lib.Seq.{drop-cons, append-snoc, drop-set-lt, take-suc-set}
-use Rattle.bitio.specs.declared.Window.{Window}
-use Rattle.bitio.specs.Refusals.{placeOf}
-use Rattle.bitio.specs.Parse.{Answer, got, refused, Parse}
-use Rattle.bitio.specs.Sound.{Sound}
+use Rattle.window.specs.declared.Window.{Window}
+use Rattle.window.specs.Refusals.{placeOf}
+use Rattle.window.specs.Parse.{Answer, got, refused, Parse}
+use Rattle.window.specs.Sound.{Sound}
 use Rattle.field.specs.Records.{Found, Looked, finds, bitsLeft}
 use Rattle.field.specs.Walks.{Stop, Walked, numbers, listFull, stopped, after, onward, walk, walked}
 use Rattle.field.proofs.Moves.{On}

@@ -7,11 +7,11 @@ use native.Mathlib.Decide.{decLe}
 use native.Mathlib.Omega.{arith}
 use borrow.Author.Tests.{le-leb, lt-leb}
 use lib.Dec.{ltb, leb, eqb}
-use Rattle.bitio.specs.declared.Window.{Window}
-use Rattle.bitio.specs.Parse.{Answer, got, refused, Parse, andThen, _>>=_, give, readIf}
-use Rattle.bitio.specs.Reads.{packed}
-use Rattle.bitio.proofs.Rows.{not-refused}
-use Rattle.bitio.proofs.Keeps.{Stays, stays, left, Keeps, keeps-packed, keeps-serialized, packed-reads}
+use Rattle.window.specs.declared.Window.{Window}
+use Rattle.window.specs.Parse.{Answer, got, refused, Parse, andThen, _>>=_, give, readIf}
+use Rattle.window.specs.Reads.{packed}
+use Rattle.window.proofs.Rows.{not-refused}
+use Rattle.window.proofs.Keeps.{Stays, stays, left, Keeps, keeps-packed, keeps-serialized, packed-reads}
 use Rattle.field.specs.declared.inner.Kind.{Kind}
 use Rattle.field.specs.Records.{Found, Looked, ends, abandons, finds, bitsLeft, remaining, payload, counted, repLayout, call, classNetCache, look}
 

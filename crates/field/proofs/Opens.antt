@@ -5,13 +5,13 @@ use mathlib.Core.List.{List}
 use Prim.Native.Nat.{ℕ}
 use borrow.Author.Tests.{eq-eqb, ne-eqb}
 use lib.Dec.{eqb}
-use Rattle.bitio.specs.declared.Window.{Window}
-use Rattle.bitio.specs.Refusals.{Refusal}
-use Rattle.bitio.specs.Parse.{got, refused, _>>_, give, refuse, refuseIf}
-use Rattle.bitio.specs.Reads.{sound, bit, readBit}
-use Rattle.bitio.specs.Sound.{Sound}
+use Rattle.window.specs.declared.Window.{Window}
+use Rattle.window.specs.Refusals.{Refusal}
+use Rattle.window.specs.Parse.{got, refused, _>>_, give, refuse, refuseIf}
+use Rattle.window.specs.Reads.{sound, bit, readBit}
+use Rattle.window.specs.Sound.{Sound}
 use Rattle.bitio.proofs.Tests.{passes}
-use Rattle.bitio.proofs.Keeps.{sound-stays, Keeps, keeps-then, keeps-give, keeps-bits}
+use Rattle.window.proofs.Keeps.{sound-stays, Keeps, keeps-then, keeps-give, keeps-bits}
 use Rattle.field.specs.Records.{repLayout, classNetCache}
 use Rattle.field.specs.Walks.{stopped, walked, settle, unresolved, parseRepLayout, parseClassNetCache}
 

@@ -3,15 +3,15 @@ use mathlib.Core.Path.{_≡_, sym, ap, _∙_}
 use mathlib.Core.List.{List}
 use Prim.Native.Nat.{ℕ, _+_, _-_, _≤_, _<_, max}
 use borrow.Author.Tests.{lt-ltb, le-ltb, le-leb, lt-leb, eq-eqb, ne-eqb}
-use Rattle.bitio.specs.declared.Window.{Window}
-use Rattle.bitio.specs.declared.BitError.{BitError}
-use Rattle.bitio.specs.declared.U32.{U32}
-use Rattle.bitio.specs.declared.U32Read.{U32Read}
-use Rattle.bitio.specs.Refusals.{Refusal, paper}
-use Rattle.bitio.specs.Answers.{u32Answer, ofU32}
-use Rattle.bitio.specs.Parse.{Answer, got, refused, _>>=_, give, readIf, advanced}
-use Rattle.bitio.specs.Reads.{packed, serialized}
-use Rattle.bitio.proofs.Rows.{then-refused}
+use Rattle.window.specs.declared.Window.{Window}
+use Rattle.window.specs.declared.BitError.{BitError}
+use Rattle.window.specs.declared.U32.{U32}
+use Rattle.window.specs.declared.U32Read.{U32Read}
+use Rattle.window.specs.Refusals.{Refusal, paper}
+use Rattle.window.specs.Answers.{u32Answer, ofU32}
+use Rattle.window.specs.Parse.{Answer, got, refused, _>>=_, give, readIf, advanced}
+use Rattle.window.specs.Reads.{packed, serialized}
+use Rattle.window.proofs.Rows.{then-refused}
 use Rattle.field.specs.Records.{ends, abandons, finds, remaining, payload, counted, repLayout, call, classNetCache}
 
 -- a number's read, by the case that the match found

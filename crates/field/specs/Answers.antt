@@ -1,9 +1,9 @@
 -- Each answer of the code in the paper's terms.
 use Prim.Native.Nat.{ℕ}
 use mathlib.Core.List.{List}
-use Rattle.bitio.specs.declared.Window.{Window}
-use Rattle.bitio.specs.Refusals.{Refusal, paper}
-use Rattle.bitio.specs.Parse.{Answer, got, refused}
+use Rattle.window.specs.declared.Window.{Window}
+use Rattle.window.specs.Refusals.{Refusal, paper}
+use Rattle.window.specs.Parse.{Answer, got, refused}
 use Rattle.field.specs.declared.FieldError.{FieldError}
 use Rattle.field.specs.declared.Stop.{Stop}
 use Rattle.field.specs.declared.Walk.{Walk}

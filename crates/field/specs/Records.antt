@@ -2,10 +2,10 @@
 use Prim.Native.Nat.{ℕ, _+_, _-_, max}
 use mathlib.Core.Bool.{not}
 use lib.Dec.{ltb, leb, eqb}
-use Rattle.bitio.specs.declared.Window.{Window}
-use Rattle.bitio.specs.Refusals.{paper}
-use Rattle.bitio.specs.Parse.{Answer, got, refused, Parse, _>>=_, readIf, advanced}
-use Rattle.bitio.specs.Reads.{packed, serialized}
+use Rattle.window.specs.declared.Window.{Window}
+use Rattle.window.specs.Refusals.{paper}
+use Rattle.window.specs.Parse.{Answer, got, refused, Parse, _>>=_, readIf, advanced}
+use Rattle.window.specs.Reads.{packed, serialized}
 use Rattle.field.specs.declared.inner.Kind.{Kind}
 use Rattle.field.specs.declared.inner.Step.{Step}
 use Rattle.field.specs.declared.inner.StepRead.{StepRead}

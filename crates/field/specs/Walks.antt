@@ -3,11 +3,11 @@ use Prim.Native.Nat.{ℕ, zero, suc}
 use mathlib.Core.Bool.{Bool, true, false}
 use mathlib.Core.List.{List, [], _∷_}
 use lib.Dec.{eqb, leb}
-use Rattle.bitio.specs.declared.Window.{Window}
-use Rattle.bitio.specs.declared.Place.{Place}
-use Rattle.bitio.specs.Refusals.{Refusal, placeOf, placed}
-use Rattle.bitio.specs.Parse.{Answer, got, refused, Parse, _>>_, refuseIf}
-use Rattle.bitio.specs.Reads.{sound, readBit}
+use Rattle.window.specs.declared.Window.{Window}
+use Rattle.window.specs.declared.Place.{Place}
+use Rattle.window.specs.Refusals.{Refusal, placeOf, placed}
+use Rattle.window.specs.Parse.{Answer, got, refused, Parse, _>>_, refuseIf}
+use Rattle.window.specs.Reads.{sound, readBit}
 use Rattle.field.specs.Records.{Found, Looked, ends, abandons, finds, bitsLeft, repLayout, classNetCache}
 
 -- at the end with nothing left, at the end with so many bits of the class net cache left, or with so many abandoned

@@ -1,23 +1,22 @@
 // One record at a time, in a window that has been tested.
 ghost use mathlib.Core.Path.{_≡_};
 ghost use Prim.Native.Nat.{_≤_, _<_, max};
-ghost use Rattle.bitio.specs.Sound.{Sound};
+ghost use Rattle.window.specs.Sound.{Sound};
 ghost use Rattle.field.specs.Records.{bitsLeft, counted, repLayout, call, classNetCache, look, ofStep};
-ghost use Rattle.bitio.specs.Parse.{got, refused};
-ghost use Rattle.bitio.specs.Refusals.{placeOf};
+ghost use Rattle.window.specs.Parse.{got, refused};
+ghost use Rattle.window.specs.Refusals.{placeOf};
 ghost use Rattle.field.specs.Walks.{abandoned, atEnd, listFull, walked};
 ghost use Rattle.field.specs.Answers.{stopAnswer, ofWalk};
 use crate::FieldError;
 use crate::Record;
 use crate::Stop;
 use crate::Walk;
-use bitio::BitError;
-use bitio::PacketBit;
-use bitio::U32;
-use bitio::Window;
-use bitio::WindowBit;
-use bitio::inner;
-use bitio::windows;
+use window::BitError;
+use window::PacketBit;
+use window::U32;
+use window::Window;
+use window::WindowBit;
+use window::inner;
 
 // Which records a walk reads: the class net cache's with its function count.
 pub enum Kind {
@@ -73,7 +72,7 @@ fn full(at: Window, count: u64) -> Walk
 {
     Walk {
         stop: Stop::Refused(FieldError::RecordListFull {
-            position: windows::place_of(at),
+            position: window::place_of(at),
         }),
         count,
         next: at,

@@ -1,7 +1,7 @@
 // The two record walks, on lists of numbers: vrf-net/src/field.rs without its sink.
-use bitio::BitError;
-use bitio::Place;
-use bitio::Window;
+use window::BitError;
+use window::Place;
+use window::Window;
 
 pub mod inner;
 pub mod walks;

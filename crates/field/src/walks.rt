@@ -1,7 +1,7 @@
 // The walks, in the order of vrf-net/src/field.rs, as the forms that keep the count beside the outcome.
 ghost use mathlib.Core.Path.{_≡_};
 ghost use mathlib.Core.Bool.{true, false};
-ghost use Rattle.bitio.specs.Parse.{refused};
+ghost use Rattle.window.specs.Parse.{refused};
 ghost use Rattle.field.specs.Walks.{parseRepLayout, parseClassNetCache, settled};
 ghost use Rattle.field.specs.Answers.{fieldPaper, stopAnswer, ofWalk};
 use crate::FieldError;
@@ -10,11 +10,11 @@ use crate::Stop;
 use crate::Walk;
 use crate::inner;
 use crate::inner::Kind;
-use bitio::Bit;
-use bitio::Done;
-use bitio::Window;
 use bitio::reads;
 use bitio::windows;
+use window::Bit;
+use window::Done;
+use window::Window;
 
 fn refused(e: FieldError, next: Window) -> Walk
     ensures { λ r. ⌜ (r .count ≡ 0) × (stopAnswer (r .stop) (r .next) ≡ refused (fieldPaper e) next) ⌝ }

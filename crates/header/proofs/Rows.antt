@@ -3,8 +3,8 @@ use Prim.Native.Nat.{ℕ}
 use mathlib.Core.Path.{_≡_, refl, sym, ap, _∙_}
 use mathlib.Core.Bool.{Bool, true, false, not, _||_, cond}
 use mathlib.Core.List.{List}
-use Rattle.bitio.specs.declared.Window.{Window}
-use Rattle.bitio.specs.Parse.{Answer, got, refused, Parse, andThen, _>>=_, give, readIf}
+use Rattle.window.specs.declared.Window.{Window}
+use Rattle.window.specs.Parse.{Answer, got, refused, Parse, andThen, _>>=_, give, readIf}
 use Rattle.header.specs.declared.BunchFields.{BunchFields}
 use Rattle.header.specs.declared.inner.Row.{Row}
 use Rattle.header.specs.declared.inner.FlagTaken.{FlagTaken}

@@ -3,10 +3,10 @@ use Prim.Native.Nat.{ℕ, _≤_}
 use mathlib.Core.Path.{_≡_, refl, sym, ap}
 use mathlib.Core.Bool.{false, _||_}
 use mathlib.Core.List.{List}
-use Rattle.bitio.specs.declared.Window.{Window}
-use Rattle.bitio.specs.Parse.{Answer, got, refused}
-use Rattle.bitio.specs.Reads.{bit}
-use Rattle.bitio.proofs.Keeps.{Stays, left, Keeps, keeps-then, keeps-give, keeps-if, keeps-bits, keeps-packed, keeps-serialized}
+use Rattle.window.specs.declared.Window.{Window}
+use Rattle.window.specs.Parse.{Answer, got, refused}
+use Rattle.window.specs.Reads.{bit}
+use Rattle.window.proofs.Keeps.{Stays, left, Keeps, keeps-then, keeps-give, keeps-if, keeps-bits, keeps-packed, keeps-serialized}
 use Rattle.types.specs.Types.{closeReasonMaximum, payloadMaximum}
 use Rattle.header.specs.declared.BunchFields.{BunchFields}
 use Rattle.header.specs.Header.{Header, unreadable, readable, headerOf, fields}

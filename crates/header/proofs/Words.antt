@@ -9,15 +9,15 @@ use lib.Count.{leadingZeros}
 use lib.Dec.{eqb, ltb, leb}
 use lib.Pow.{shr-shr}
 use borrow.Author.Tests.{lt-ltb, le-ltb, leb-true, ltb-true, ltb-false, eq-eqb, ne-eqb, eqb-true, eqb-false}
-use Rattle.bitio.specs.declared.Window.{Window}
-use Rattle.bitio.specs.declared.Place.{Place}
-use Rattle.bitio.specs.Bits.{bitsAt}
-use Rattle.bitio.specs.Words.{Peeked}
-use Rattle.bitio.specs.Refusals.{placeOf}
-use Rattle.bitio.specs.Parse.{Answer, got, Parse, andThen, _>>=_, give, readIf, place, advanced}
-use Rattle.bitio.specs.Reads.{bits, bit, packedFrom, packed, log2, serialized}
-use Rattle.bitio.proofs.Numbers.{cut}
-use Rattle.bitio.proofs.Steps.{bits-there}
+use Rattle.window.specs.declared.Window.{Window}
+use Rattle.window.specs.declared.Place.{Place}
+use Rattle.bits.specs.Bits.{bitsAt}
+use Rattle.bits.specs.Words.{Peeked}
+use Rattle.window.specs.Refusals.{placeOf}
+use Rattle.window.specs.Parse.{Answer, got, Parse, andThen, _>>=_, give, readIf, place, advanced}
+use Rattle.window.specs.Reads.{bits, bit, packedFrom, packed, log2, serialized}
+use Rattle.bits.proofs.Numbers.{cut}
+use Rattle.window.proofs.Steps.{bits-there}
 use Rattle.header.specs.declared.BunchFields.{BunchFields}
 use Rattle.header.specs.declared.inner.quick.Rest.{Rest}
 use Rattle.header.specs.Header.{readable, headerOf}

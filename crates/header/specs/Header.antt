@@ -1,8 +1,8 @@
 -- What the bits of a bunch header say, in document 01's order.
 use Prim.Native.Nat.{ℕ}
 use mathlib.Core.Bool.{false, _||_}
-use Rattle.bitio.specs.Parse.{Answer, got, refused, Parse, _>>=_, give, readIf}
-use Rattle.bitio.specs.Reads.{bit, packed, serialized}
+use Rattle.window.specs.Parse.{Answer, got, refused, Parse, _>>=_, give, readIf}
+use Rattle.window.specs.Reads.{bit, packed, serialized}
 use Rattle.types.specs.Types.{closeReasonMaximum, payloadMaximum}
 use Rattle.header.specs.declared.BunchFields.{BunchFields}
 

@@ -3,7 +3,7 @@
 use Prim.Native.Nat.{ℕ}
 use mathlib.Core.Bool.{Bool, true, false, cond}
 use mathlib.Core.List.{List}
-use Rattle.bitio.specs.Parse.{Answer, got, refused, Parse}
+use Rattle.window.specs.Parse.{Answer, got, refused, Parse}
 use Rattle.header.specs.declared.inner.Row.{Row}
 use Rattle.header.specs.declared.inner.FlagTaken.{FlagTaken}
 use Rattle.header.specs.declared.inner.NumberTaken.{NumberTaken}

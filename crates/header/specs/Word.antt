@@ -3,9 +3,9 @@
 use Prim.Native.Nat.{ℕ, _+_, _-_, _/_, _%_, _^_, _≤_}
 use mathlib.Core.Path.{_≡_}
 use mathlib.Core.List.{List}
-use Rattle.bitio.specs.declared.Window.{Window}
-use Rattle.bitio.specs.Bits.{bitsAt}
-use Rattle.bitio.specs.Parse.{got, Parse, advanced}
+use Rattle.window.specs.declared.Window.{Window}
+use Rattle.bits.specs.Bits.{bitsAt}
+use Rattle.window.specs.Parse.{got, Parse, advanced}
 use Rattle.header.specs.declared.inner.quick.Rest.{Rest}
 
 -- what is left of a word whose low 57 bits were those at the window's place

@@ -2,21 +2,21 @@
 ghost use mathlib.Core.Path.{_≡_};
 ghost use mathlib.Core.Bool.{false};
 ghost use Prim.Native.Nat.{_≤_, _<_};
-ghost use Rattle.bitio.specs.Parse.{readIf};
-ghost use Rattle.bitio.specs.Answers.{ofU32};
-ghost use Rattle.bitio.specs.Reads.{bit, packed, serialized};
-ghost use Rattle.bitio.specs.Sound.{Sound};
+ghost use Rattle.window.specs.Parse.{readIf};
+ghost use Rattle.window.specs.Answers.{ofU32};
+ghost use Rattle.window.specs.Reads.{bit, packed, serialized};
+ghost use Rattle.window.specs.Sound.{Sound};
 ghost use Rattle.header.specs.Header.{fields, headerOf};
 ghost use Rattle.header.specs.Row.{settled, taken, flagOf, numberOf, headerRead};
 use crate::BunchFields;
-use bitio::Bit;
-use bitio::U32;
-use bitio::U32Read;
-use bitio::Window;
-use bitio::inner;
-use bitio::inner::words;
+use bits::inner::words;
 use types::CHANNEL_CLOSE_REASON_MAX;
 use types::MAX_PACKET_SIZE_BITS;
+use window::Bit;
+use window::U32;
+use window::U32Read;
+use window::Window;
+use window::inner;
 
 pub mod quick;
 

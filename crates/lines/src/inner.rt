@@ -9,7 +9,7 @@ ghost use Rattle.lines.specs.Puts.{Put, bunchNames, bunchPayload};
 use crate::BunchLine;
 use crate::PacketLine;
 use crate::Text;
-use bitio::inner::signed;
+use bits::inner::signed;
 
 fn byte(out: &mut [u8], at: usize, value: u8) -> usize
     requires { ⌜ at + 1 ≤ length (now out) ⌝ }

@@ -3,10 +3,10 @@ use mathlib.Core.Path.{_≡_, refl}
 use mathlib.Core.List.{List, [], _∷_}
 use Prim.Native.Nat.{ℕ}
 use lib.Count.{leadingZeros}
-use Rattle.bitio.specs.Bits.{bitAt, bitsAt}
-use Rattle.bitio.specs.Floats.{signed}
-use Rattle.bitio.specs.Parse.{_>>=_, _>>_, give, refuse, refuseIf, readIf, place}
-use Rattle.bitio.specs.Reads.{need, taken, bits, bit, packedFrom, packed, log2, serialized}
+use Rattle.bits.specs.Bits.{bitAt, bitsAt}
+use Rattle.bits.specs.Floats.{signed}
+use Rattle.window.specs.Parse.{_>>=_, _>>_, give, refuse, refuseIf, readIf, place}
+use Rattle.window.specs.Reads.{need, taken, bits, bit, packedFrom, packed, log2, serialized}
 use Rattle.tables.specs.Tables.{get, put, without}
 use Rattle.types.specs.Types.{reasonOf}
 use Rattle.header.specs.Header.{fields}

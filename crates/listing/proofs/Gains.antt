@@ -6,12 +6,12 @@ use Prim.Native.Nat.{ℕ, _+_, _-_, _≤_}
 use native.Mathlib.Decide.{decLe}
 use native.Mathlib.Omega.{arith}
 use lib.Count.{leadingZeros}
-use Rattle.bitio.specs.declared.Window.{Window}
-use Rattle.bitio.specs.Parse.{Answer, got, refused, Parse, andThen, _>>=_, advanced}
-use Rattle.bitio.specs.Reads.{bits, bit, packed, log2, serialized}
-use Rattle.bitio.proofs.Rows.{not-refused}
-use Rattle.bitio.proofs.Steps.{bits-short, bits-there}
-use Rattle.bitio.proofs.Keeps.{Keeps, keeps-then, keeps-give, keeps-if, keeps-bits, keeps-packed, keeps-serialized, packed-reads}
+use Rattle.window.specs.declared.Window.{Window}
+use Rattle.window.specs.Parse.{Answer, got, refused, Parse, andThen, _>>=_, advanced}
+use Rattle.window.specs.Reads.{bits, bit, packed, log2, serialized}
+use Rattle.window.proofs.Rows.{not-refused}
+use Rattle.window.proofs.Steps.{bits-short, bits-there}
+use Rattle.window.proofs.Keeps.{Keeps, keeps-then, keeps-give, keeps-if, keeps-bits, keeps-packed, keeps-serialized, packed-reads}
 use Rattle.types.specs.Types.{closeReasonMaximum, payloadMaximum}
 use Rattle.header.specs.Header.{fields}
 

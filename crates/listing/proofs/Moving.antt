@@ -9,7 +9,7 @@ use lib.Count.{leadingZeros}
 use lib.Dec.{eqb, leb, ltb}
 use lib.ListN.{length}
 use mir.Val.{boolByte}
-use Rattle.bitio.specs.Parse.{Answer, got, refused}
+use Rattle.window.specs.Parse.{Answer, got, refused}
 use Rattle.header.specs.declared.BunchFields.{BunchFields}
 use Rattle.header.specs.Header.{readable, headerOf, fields}
 use Rattle.packet.specs.Packet.{Channels, Read, lastByte, dataBits, rest, ended, broken, whole, headed, nextBunch}

@@ -9,7 +9,7 @@ use lib.IntN.{ℤ}
 use lib.ListN.{length, length-append}
 use mir.Syntax.{w32}
 use mir.Val.{ofZ, boolByte}
-use Rattle.bitio.specs.Parse.{value}
+use Rattle.window.specs.Parse.{value}
 use Rattle.packet.specs.declared.Bunch.{Bunch}
 use Rattle.packet.specs.declared.BunchRead.{BunchRead}
 use Rattle.packet.specs.Packet.{Channels, Outcome, bunch, end, malformed, Read, dataBits, nextBunch}

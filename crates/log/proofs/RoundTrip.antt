@@ -10,7 +10,7 @@ use lib.ListN.{length, take, drop, length-append}
 use lib.Seq.{take-length}
 use mir.Syntax.{w32}
 use mir.Val.{SFits, ofZ}
-use Rattle.bitio.specs.Floats.{signed}
+use Rattle.bits.specs.Floats.{signed}
 use Rattle.log.specs.declared.Entry.{Entry}
 use Rattle.log.specs.Log.{versionOf, idAt, lengthAt, entryAt, Packet, whole, Log, onward, logAt, logOf}
 use Rattle.log.proofs.Entries.{at-end, whole-at}

@@ -5,7 +5,7 @@ use mathlib.Core.List.{List, [], _∷_}
 use lib.Dec.{eqb, leb}
 use lib.IntN.{ℤ}
 use lib.ListN.{length, getD, take, drop}
-use Rattle.bitio.specs.Floats.{signed}
+use Rattle.bits.specs.Floats.{signed}
 use Rattle.log.specs.declared.Version.{Version}
 use Rattle.log.specs.declared.Entry.{Entry}
 

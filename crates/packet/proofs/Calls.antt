@@ -8,7 +8,7 @@ use lib.ListN.{length}
 use mir.Syntax.{w32}
 use mir.Val.{ofZ}
 use borrow.Author.Tests.{le-ltb, lt-ltb}
-use Rattle.bitio.specs.Refusals.{beyond}
+use Rattle.window.specs.Refusals.{beyond}
 use Rattle.packet.specs.declared.Reader.{Reader}
 use Rattle.packet.specs.Packet.{dataBits, nextBunch}
 use Rattle.packet.specs.Memory.{Memory, channelsOf, sound}

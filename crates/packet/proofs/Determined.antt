@@ -4,8 +4,8 @@ use mathlib.Core.Path.{_≡_, refl, ap, sym, _∙_}
 use mathlib.Core.Bool.{cond}
 use lib.Dec.{eqb}
 use lib.ListN.{getD}
-use Rattle.bitio.specs.Refusals.{Refusal, beyond}
-use Rattle.bitio.specs.Parse.{Result, value, refusal}
+use Rattle.window.specs.Refusals.{Refusal, beyond}
+use Rattle.window.specs.Parse.{Result, value, refusal}
 use Rattle.bitio.proofs.Determined.{determined}
 use Rattle.packet.specs.declared.PacketError.{PacketError}
 use Rattle.packet.specs.declared.Bunch.{Bunch}

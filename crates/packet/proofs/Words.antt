@@ -6,7 +6,7 @@ use borrow.Author.Tests.{lt-ltb, le-ltb}
 use lib.IntN.{ℤ, pos, negsuc}
 use mir.Syntax.{w32}
 use mir.Val.{SFits, ofZ}
-use Rattle.bitio.specs.Floats.{signed}
+use Rattle.bits.specs.Floats.{signed}
 
 pub signed-word : (z : ℤ) → SFits w32 z → signed (ofZ w32 z) ≡ z
 unfolding signed

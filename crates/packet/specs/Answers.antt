@@ -7,8 +7,8 @@ use lib.IntN.{ℤ}
 use lib.ListN.{length}
 use mir.Syntax.{w32}
 use mir.Val.{ofZ}
-use Rattle.bitio.specs.Refusals.{Refusal, beyond}
-use Rattle.bitio.specs.Parse.{Result, value, refusal}
+use Rattle.window.specs.Refusals.{Refusal, beyond}
+use Rattle.window.specs.Parse.{Result, value, refusal}
 use Rattle.packet.specs.declared.PacketError.{PacketError}
 use Rattle.packet.specs.declared.Bunch.{Bunch}
 use Rattle.packet.specs.declared.BunchRead.{BunchRead}

@@ -6,8 +6,8 @@ use lib.Count.{leadingZeros}
 use lib.Dec.{eqb, leb, ltb}
 use lib.ListN.{length, getD}
 use mir.Val.{boolByte}
-use Rattle.bitio.specs.declared.Window.{Window}
-use Rattle.bitio.specs.Floats.{signed}
+use Rattle.window.specs.declared.Window.{Window}
+use Rattle.bits.specs.Floats.{signed}
 use Rattle.tables.specs.Tables.{Table, without}
 use Rattle.types.specs.declared.RawBunchHeader.{RawBunchHeader}
 use Rattle.types.specs.declared.PartialSequenceKind.{PartialSequenceKind}

@@ -2,7 +2,7 @@
 use Prim.Native.Nat.{ℕ, _+_}
 use mathlib.Core.Bool.{Bool}
 use mir.Val.{boolByte}
-use Rattle.bitio.specs.Parse.{value}
+use Rattle.window.specs.Parse.{value}
 use Rattle.header.specs.declared.BunchFields.{BunchFields}
 use Rattle.packet.specs.Packet.{Channels, Outcome, bunch, header, payload, whole, compared}
 use Rattle.channels.specs.Sequences.{numbered}

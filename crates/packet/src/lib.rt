@@ -1,7 +1,7 @@
 // The packet reader, one bunch a call: vrf-net/src/packet.rs over lent tables.
-use bitio::PacketBit;
-use bitio::Window;
 use types::RawBunchHeader;
+use window::PacketBit;
+use window::Window;
 
 pub mod inner;
 pub mod packets;

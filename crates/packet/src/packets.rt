@@ -11,9 +11,9 @@ use crate::PacketError;
 use crate::Reader;
 use crate::inner::bunch;
 use crate::inner::read;
-use bitio::PacketBit;
-use bitio::inner::signed;
+use bits::inner::signed;
 use tables::inner;
+use window::PacketBit;
 
 fn fitting(limit: usize, a: usize, b: usize, c: usize, d: usize, e: usize) -> bool
     ensures { λ r. ⌜ r ≡ fitting limit a b c d e ⌝ }

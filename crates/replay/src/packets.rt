@@ -7,7 +7,7 @@ ghost use lib.ListN.{length};
 use crate::calls::Given;
 use crate::record;
 use crate::walks;
-use bitio::inner::signed;
+use bits::inner::signed;
 use exports::packets;
 
 fn load(target: &[u8], at: usize, column: &mut [u32])

@@ -6,15 +6,15 @@ use native.Mathlib.Nat.{sub-zero}
 use native.Mathlib.Omega.{arith}
 use lib.Dec.{ltb, eqb}
 use borrow.Author.Tests.{lt-ltb, le-ltb, eq-eqb, ne-eqb}
-use Rattle.bitio.specs.declared.Window.{Window}
-use Rattle.bitio.specs.declared.BitError.{BitError}
-use Rattle.bitio.specs.declared.Done.{Done}
-use Rattle.bitio.specs.Refusals.{Refusal, tooWide, zeroMaximum}
-use Rattle.bitio.specs.Parse.{got, refused, Parse, _>>_, give, refuseIf}
-use Rattle.bitio.specs.Reads.{sound, bit, bits, packed, serialized, readBit, readBits, readPacked, readSerialized}
-use Rattle.bitio.specs.Answers.{doneAnswer}
-use Rattle.bitio.specs.Sound.{Sound}
-use Rattle.bitio.proofs.Rows.{then-got, then-refused, next-got, refuses, lets-on}
+use Rattle.window.specs.declared.Window.{Window}
+use Rattle.window.specs.declared.BitError.{BitError}
+use Rattle.window.specs.declared.Done.{Done}
+use Rattle.window.specs.Refusals.{Refusal, tooWide, zeroMaximum}
+use Rattle.window.specs.Parse.{got, refused, Parse, _>>_, give, refuseIf}
+use Rattle.window.specs.Reads.{sound, bit, bits, packed, serialized, readBit, readBits, readPacked, readSerialized}
+use Rattle.window.specs.Answers.{doneAnswer}
+use Rattle.window.specs.Sound.{Sound}
+use Rattle.window.proofs.Rows.{then-got, then-refused, next-got, refuses, lets-on}
 use Rattle.bitio.proofs.Tests.{fine, stopped}
 use Rattle.timing.specs.Sums.{calls, plus}
 

@@ -3,10 +3,10 @@ use Prim.Native.Nat.{ℕ, zero, suc, _+_, _%_, _^_}
 use mathlib.Core.List.{List}
 use lib.ListN.{length, getD}
 use mir.Val.{boolByte}
-use Rattle.bitio.specs.declared.Window.{Window}
-use Rattle.bitio.specs.Parse.{Answer, got, refused, Parse, _>>=_, _>>_, give}
-use Rattle.bitio.specs.Reads.{readBit, readBits, readPacked, readSerialized}
-use Rattle.bitio.specs.Copies.{copied, copyBits}
+use Rattle.window.specs.declared.Window.{Window}
+use Rattle.window.specs.Parse.{Answer, got, refused, Parse, _>>=_, _>>_, give}
+use Rattle.window.specs.Reads.{readBit, readBits, readPacked, readSerialized}
+use Rattle.window.specs.Copies.{copied, copyBits}
 
 abbrev pub window : ℕ → ℕ → ℕ → Window
 window start position length = record { start = record { 0 = start }; position = record { 0 = position }; length = length }

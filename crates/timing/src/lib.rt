@@ -1,16 +1,16 @@
 // Many reads in one call, for bench/ to time: the window is tested and the mask table made once, as the project's own crates do it.
 ghost use mathlib.Core.Path.{_≡_};
 ghost use Rattle.timing.specs.Sums.{window, bitSum, bitsSum, packedSum, serializedSum, copiesMade};
-use bitio::Bit;
-use bitio::Done;
-use bitio::PacketBit;
-use bitio::U32;
-use bitio::U64;
-use bitio::Window;
-use bitio::WindowBit;
-use bitio::inner::copy;
-use bitio::inner::masks;
 use bitio::windows;
+use bits::inner::masks;
+use window::Bit;
+use window::Done;
+use window::PacketBit;
+use window::U32;
+use window::U64;
+use window::Window;
+use window::WindowBit;
+use window::inner::copy;
 
 #[no_mangle]
 pub extern "C" fn timing_read_bit(
@@ -33,7 +33,7 @@ pub extern "C" fn timing_read_bit(
             let mut sum: u64 = 0;
             let mut k: u64 = 0;
             while k < n {
-                let read = bitio::inner::bit(bytes, w);
+                let read = window::inner::bit(bytes, w);
                 let answer = read.answer;
                 match answer {
                     Bit::Refused(_) => {
@@ -77,7 +77,7 @@ pub extern "C" fn timing_read_bits(
                 if width > 64 {
                     return sum;
                 }
-                let read = bitio::inner::bits(bytes, &masks, w, width);
+                let read = window::inner::bits(bytes, &masks, w, width);
                 let answer = read.answer;
                 match answer {
                     U64::Refused(_) => {
@@ -116,7 +116,7 @@ pub extern "C" fn timing_read_int_packed(
             let mut sum: u64 = 0;
             let mut k: u64 = 0;
             while k < n {
-                let read = bitio::inner::packed(bytes, w);
+                let read = window::inner::packed(bytes, w);
                 let answer = read.answer;
                 match answer {
                     U32::Refused(_) => {
@@ -159,7 +159,7 @@ pub extern "C" fn timing_read_serialized_int(
                 if max == 0 {
                     return sum;
                 }
-                let read = bitio::inner::serialized(bytes, w, max);
+                let read = window::inner::serialized(bytes, w, max);
                 let answer = read.answer;
                 match answer {
                     U32::Refused(_) => {
@@ -206,7 +206,7 @@ pub extern "C" fn timing_copy(
                 }
                 let start = w.start;
                 let position = w.position;
-                let read = bitio::inner::skip(w, count);
+                let read = window::inner::skip(w, count);
                 let answer = read.answer;
                 match answer {
                     Done::Refused(_) => {

@@ -9,7 +9,7 @@ use mir.Syntax.{w32}
 use mir.Val.{SFits, ofZ, boolByte}
 use mir.ValLaws.{ofZ-fits}
 use borrow.Author.Tests.{lt-ltb, le-ltb}
-use Rattle.bitio.specs.Floats.{signed}
+use Rattle.bits.specs.Floats.{signed}
 use Rattle.types.specs.Types.{reasonOf}
 use Rattle.types.specs.declared.ChannelCloseReason.{ChannelCloseReason}
 use Rattle.types.specs.declared.PartialSequenceKind.{PartialSequenceKind}

@@ -6,7 +6,7 @@ use lib.Dec.{eqb}
 use lib.ListN.{getD}
 use mir.Syntax.{w32}
 use mir.Val.{ofZ, boolByte}
-use Rattle.bitio.specs.Floats.{signed}
+use Rattle.bits.specs.Floats.{signed}
 use Rattle.types.specs.Types.{reasonOf}
 use Rattle.types.specs.declared.ChannelCloseReason.{ChannelCloseReason}
 use Rattle.types.specs.declared.PartialSequenceKind.{PartialSequenceKind}

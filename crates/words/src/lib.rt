@@ -2,7 +2,7 @@
 ghost use mathlib.Core.Path.{_≡_};
 ghost use Rattle.types.specs.Types.{reasonOf};
 ghost use Rattle.words.specs.Words.{reasonWord, kindWord, headerWords, kindOf, headerFrom};
-use bitio::inner::signed;
+use bits::inner::signed;
 use types::ChannelCloseReason;
 use types::PartialSequenceKind;
 use types::RawBunchHeader;

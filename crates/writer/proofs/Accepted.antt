@@ -6,8 +6,8 @@ use mathlib.Core.List.{List, [], _∷_}
 use lib.Dec.{ltb}
 use lib.ListN.{length}
 use borrow.Author.Tests.{ltb-false}
-use Rattle.bitio.specs.Refusals.{Refusal, beyond}
-use Rattle.bitio.specs.Parse.{value}
+use Rattle.window.specs.Refusals.{Refusal, beyond}
+use Rattle.window.specs.Parse.{value}
 use Rattle.types.specs.declared.RawBunchHeader.{RawBunchHeader}
 use Rattle.writer.specs.Bits.{put}
 use Rattle.writer.specs.Header.{bunchBits, writable}

@@ -4,8 +4,8 @@ use mathlib.Core.Path.{_≡_, sym, ap, _∙_}
 use mathlib.Core.List.{List}
 use native.Mathlib.Omega.{arith}
 use lib.ListN.{length, length-append}
-use Rattle.bitio.specs.declared.Window.{Window}
-use Rattle.bitio.specs.Parse.{got, advanced}
+use Rattle.window.specs.declared.Window.{Window}
+use Rattle.window.specs.Parse.{got, advanced}
 use Rattle.types.specs.declared.RawBunchHeader.{RawBunchHeader}
 use Rattle.header.specs.Header.{fields}
 use Rattle.writer.specs.Bits.{bitsFrom, put}

@@ -7,8 +7,8 @@ use lib.Dec.{ltb}
 use lib.ListN.{length}
 use native.Mathlib.Omega.{arith}
 use borrow.Author.Tests.{le-ltb, lt-ltb, ltb-false}
-use Rattle.bitio.specs.Refusals.{beyond}
-use Rattle.bitio.specs.Parse.{value}
+use Rattle.window.specs.Refusals.{beyond}
+use Rattle.window.specs.Parse.{value}
 use Rattle.types.specs.declared.RawBunchHeader.{RawBunchHeader}
 use Rattle.writer.specs.Bits.{put}
 use Rattle.writer.specs.Header.{bunchBits, writable}

@@ -5,8 +5,8 @@ use mathlib.Core.Bool.{cond}
 use mathlib.Core.List.{List}
 use lib.Dec.{eqb}
 use lib.ListN.{getD}
-use Rattle.bitio.specs.Refusals.{Refusal, beyond}
-use Rattle.bitio.specs.Parse.{Result, value, refusal}
+use Rattle.window.specs.Refusals.{Refusal, beyond}
+use Rattle.window.specs.Parse.{Result, value, refusal}
 use Rattle.bitio.proofs.Determined.{determined}
 use Rattle.writer.specs.declared.WriteError.{WriteError}
 use Rattle.writer.specs.declared.Written.{Written}

@@ -7,7 +7,7 @@ use native.Mathlib.Nat.{add-zero, zero-add, suc-add}
 use native.Mathlib.Omega.{arith}
 use lib.Dec.{eqb}
 use lib.ListN.{length, length-set}
-use Rattle.bitio.specs.Bits.{bitAt, bitsAt}
+use Rattle.bits.specs.Bits.{bitAt, bitsAt}
 use Rattle.writer.specs.Bits.{bitsOf, bitsFrom, putBit, put}
 
 pub length-bitsOf : (n x : ℕ) → length (bitsOf n x) ≡ n

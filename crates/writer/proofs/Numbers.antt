@@ -9,14 +9,14 @@ use native.Mathlib.Omega.{arith}
 use lib.Dec.{eqb, ltb}
 use lib.Pow.{pow-pos, pow-add, shr-lt, split, low, mod-pow-add}
 use borrow.Author.Tests.{le-ltb, ltb-true, ltb-false, eq-eqb, ne-eqb, eqb-true, eqb-false}
-use Rattle.bitio.specs.declared.Place.{Place}
-use Rattle.bitio.specs.Bits.{bitAt, bitsAt}
-use Rattle.bitio.specs.Refusals.{placeOf, endless, tooLarge}
-use Rattle.bitio.specs.Parse.{got, _>>=_, give, readIf, place, advanced}
-use Rattle.bitio.specs.Reads.{bits, bit, packedFrom, packed, log2, serialized}
-use Rattle.bitio.proofs.Numbers.{bits-lt, bits-one}
-use Rattle.bitio.proofs.Logs.{log2-lt}
-use Rattle.bitio.proofs.Steps.{bits-there}
+use Rattle.window.specs.declared.Place.{Place}
+use Rattle.bits.specs.Bits.{bitAt, bitsAt}
+use Rattle.window.specs.Refusals.{placeOf, endless, tooLarge}
+use Rattle.window.specs.Parse.{got, _>>=_, give, readIf, place, advanced}
+use Rattle.window.specs.Reads.{bits, bit, packedFrom, packed, log2, serialized}
+use Rattle.bits.proofs.Numbers.{bits-lt, bits-one}
+use Rattle.window.proofs.Logs.{log2-lt}
+use Rattle.window.proofs.Steps.{bits-there}
 use Rattle.writer.specs.Bits.{bitsOf, bitsFrom, onlyIf, packedUpTo, packedBits, serializedBits}
 use Rattle.writer.proofs.Lists.{length-bitsOf}
 use Rattle.writer.proofs.Reading.{Reads, reads-nothing, reads-same, reads-past, reads-then, reads-last}

@@ -11,9 +11,9 @@ use lib.ListN.{length, getD, set, length-set}
 use lib.Pow.{pow-pos, pow-add, pow-mono, shl-exact}
 use lib.Seq.{set-set, getD-set-same}
 use mir.Val.{boolByte}
-use Rattle.bitio.specs.Bits.{bitsAt}
-use Rattle.bitio.specs.Words.{Peeked, stored}
-use Rattle.bitio.proofs.Numbers.{bits-lt}
+use Rattle.bits.specs.Bits.{bitsAt}
+use Rattle.bits.specs.Words.{Peeked, stored}
+use Rattle.bits.proofs.Numbers.{bits-lt}
 use Rattle.writer.specs.Bits.{bitsOf, bitsFrom, putBit, put}
 use Rattle.writer.proofs.Lists.{length-bitsFrom, from-append, of-at, put-append}
 

@@ -7,7 +7,7 @@ use native.Mathlib.Omega.{arith}
 use lib.Dec.{eqb}
 use lib.ListN.{length, getD}
 use mir.Val.{boolByte}
-use Rattle.bitio.specs.Bits.{bitAt}
+use Rattle.bits.specs.Bits.{bitAt}
 use Rattle.writer.specs.Bits.{bitsFrom, putBit, put}
 use Rattle.writer.proofs.OneBit.{other-bytes, length-one, one-before, one-there, one-spare}
 

@@ -7,11 +7,11 @@ use native.Mathlib.Nat.{add-assoc, add-zero}
 use native.Mathlib.Omega.{arith}
 use lib.ListN.{length, take, drop, length-append}
 use lib.Seq.{take-at, drop-at}
-use Rattle.bitio.specs.declared.Window.{Window}
-use Rattle.bitio.specs.Refusals.{Refusal}
-use Rattle.bitio.specs.Parse.{Answer, got, Parse, andThen, _>>=_, _>>_, give, refuseIf, readIf, advanced}
-use Rattle.bitio.proofs.Rows.{lets-on}
-use Rattle.bitio.proofs.Steps.{advanced-past}
+use Rattle.window.specs.declared.Window.{Window}
+use Rattle.window.specs.Refusals.{Refusal}
+use Rattle.window.specs.Parse.{Answer, got, Parse, andThen, _>>=_, _>>_, give, refuseIf, readIf, advanced}
+use Rattle.window.proofs.Rows.{lets-on}
+use Rattle.window.proofs.Steps.{advanced-past}
 use Rattle.writer.specs.Bits.{bitsFrom, onlyIf}
 use Rattle.writer.proofs.Lists.{length-bitsFrom, from-append}
 

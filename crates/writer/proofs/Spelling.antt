@@ -10,7 +10,7 @@ use lib.Bits.{block-half, block-odd}
 use lib.Count.{leadingZeros}
 use lib.Dec.{eqb}
 use lib.Pow.{pow-pos, pow-add, split}
-use Rattle.bitio.specs.Reads.{log2}
+use Rattle.window.specs.Reads.{log2}
 use Rattle.types.specs.Types.{closeReasonMaximum, payloadMaximum}
 use Rattle.writer.specs.declared.inner.Bits.{Bits}
 use Rattle.writer.specs.Bits.{bitsOf, onlyIf, serializedBits}

@@ -4,8 +4,8 @@ use mathlib.Core.Bool.{Bool, true, cond}
 use mathlib.Core.List.{List, [], _∷_}
 use lib.Dec.{ltb}
 use lib.ListN.{length}
-use Rattle.bitio.specs.Refusals.{Refusal, beyond}
-use Rattle.bitio.specs.Parse.{Result, value, refusal}
+use Rattle.window.specs.Refusals.{Refusal, beyond}
+use Rattle.window.specs.Parse.{Result, value, refusal}
 use Rattle.types.specs.declared.RawBunchHeader.{RawBunchHeader}
 use Rattle.writer.specs.declared.WriteError.{WriteError}
 use Rattle.writer.specs.declared.Written.{Written}

@@ -5,8 +5,8 @@ use mathlib.Core.List.{List, [], _∷_, _++_}
 use lib.Dec.{eqb, ltb}
 use lib.ListN.{getD, set}
 use mir.Val.{boolByte}
-use Rattle.bitio.specs.Bits.{bitAt}
-use Rattle.bitio.specs.Reads.{log2}
+use Rattle.bits.specs.Bits.{bitAt}
+use Rattle.window.specs.Reads.{log2}
 
 -- the n lowest bits of a number
 unfoldable pub bitsOf : ℕ → ℕ → List Bool

@@ -1,5 +1,5 @@
 // A bunch writer over a lent packet: what it writes, the packet reader reads back.
-use bitio::PacketBit;
+use window::PacketBit;
 
 pub mod inner;
 pub mod writing;

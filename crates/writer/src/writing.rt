@@ -8,8 +8,8 @@ use crate::inner::append;
 use crate::inner::fields;
 use crate::inner::push;
 use crate::inner::room;
-use bitio::PacketBit;
 use types::RawBunchHeader;
+use window::PacketBit;
 
 // The first `count` bits of a payload under a header: 5, 16, 11, 12 or 17 where they can't be written.
 pub fn write_bunch(

@@ -3,8 +3,8 @@
 ghost use mathlib.Core.Path.{_≡_};
 ghost use mathlib.Core.Bool.{false, cond};
 ghost use Prim.Native.Nat.{_+_, _%_, _^_, _≤_, _<_};
-ghost use Rattle.bitio.specs.Parse.{readIf};
-ghost use Rattle.bitio.specs.Reads.{bit, packed, serialized};
+ghost use Rattle.window.specs.Parse.{readIf};
+ghost use Rattle.window.specs.Reads.{bit, packed, serialized};
 ghost use Rattle.types.specs.Types.{closeReasonMaximum, payloadMaximum};
 ghost use Rattle.header.specs.Header.{fields};
 ghost use Rattle.header.specs.Word.{Reads, passed};

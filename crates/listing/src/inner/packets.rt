@@ -9,7 +9,7 @@ ghost use Rattle.lines.specs.Lines.{lineRoom};
 ghost use Rattle.lines.specs.Puts.{Put};
 ghost use Rattle.listing.specs.Listing.{lineOf, raised, closing, listed};
 ghost use Rattle.listing.specs.Turns.{answerText, answerGoesOn, Few, PacketRoom, Tells};
-use bitio::inner::signed;
+use bits::inner::signed;
 use lines::BunchLine;
 use lines::PacketLine;
 use packet::Bunch;

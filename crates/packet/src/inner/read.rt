@@ -14,14 +14,14 @@ use crate::Bunch;
 use crate::BunchRead;
 use crate::Reader;
 use crate::inner::bunch;
-use bitio::PacketBit;
-use bitio::Window;
-use bitio::WindowBit;
 use channels::inner::partials;
 use channels::inner::retire;
 use channels::inner::sequences::Numbered;
 use header::BunchFields;
 use header::inner;
+use window::PacketBit;
+use window::Window;
+use window::WindowBit;
 
 fn count(flag: bool) -> u32
     ensures { λ r. ⌜ r ≡ boolByte flag ⌝ }

@@ -3,7 +3,7 @@ use mathlib.Core.Path.{sym, _∙_}
 use Prim.Native.Nat.{_-_}
 use mir.Val.{boolByte}
 use borrow.Author.Needs.{needs}
-use Rattle.bitio.specs.Reads.{bit, readBit}
+use Rattle.window.specs.Reads.{bit, readBit}
 use Rattle.bitio.proofs.Tests.{tested}
 use Rattle.timing.specs.Sums.{plus, window, bitSum}
 use Rattle.timing.proofs.Laws.{Row, begin, adds, sum-ends, finish, no-sum, bit-on}

@@ -4,9 +4,9 @@ use Prim.Native.Nat.{_-_}
 use lib.Dec.{ltb}
 use lib.ListN.{length, getD}
 use borrow.Author.Needs.{needs}
-use Rattle.bitio.specs.Refusals.{tooWide}
-use Rattle.bitio.specs.Parse.{_>>_, refuseIf}
-use Rattle.bitio.specs.Reads.{bits, readBits}
+use Rattle.window.specs.Refusals.{tooWide}
+use Rattle.window.specs.Parse.{_>>_, refuseIf}
+use Rattle.window.specs.Reads.{bits, readBits}
 use Rattle.bitio.proofs.Tests.{tested}
 use Rattle.timing.specs.Sums.{plus, window, bitsSum}
 use Rattle.timing.proofs.Laws.{Row, begin, adds, sum-ends, finish, no-sum, bits-on, too-wide}

@@ -5,9 +5,9 @@ use native.Mathlib.Omega.{arith}
 use lib.Dec.{eqb}
 use lib.ListN.{length, getD}
 use borrow.Author.Needs.{needs}
-use Rattle.bitio.specs.Refusals.{zeroMaximum}
-use Rattle.bitio.specs.Parse.{_>>_, refuseIf}
-use Rattle.bitio.specs.Reads.{serialized, readSerialized}
+use Rattle.window.specs.Refusals.{zeroMaximum}
+use Rattle.window.specs.Parse.{_>>_, refuseIf}
+use Rattle.window.specs.Reads.{serialized, readSerialized}
 use Rattle.bitio.proofs.Tests.{tested}
 use Rattle.timing.specs.Sums.{plus, window, serializedSum}
 use Rattle.timing.proofs.Laws.{Row, begin, adds, sum-ends, finish, no-sum, serialized-on, no-maximum}

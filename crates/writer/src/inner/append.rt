@@ -13,8 +13,8 @@ use crate::inner::Bits;
 use crate::inner::push;
 use crate::inner::room;
 use crate::inner::words;
-use bitio::PacketBit;
 use header::BunchFields;
+use window::PacketBit;
 
 // The header's two words, and the payload.
 fn lay(packet: &mut [u8], at: u64, front: Bits, back: Bits, payload: &[u8], count: u64)

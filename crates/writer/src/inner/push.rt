@@ -5,8 +5,8 @@ ghost use lib.ListN.{length};
 ghost use Rattle.writer.specs.Bits.{bitsFrom, put};
 ghost use Rattle.writer.specs.Words.{spelt, Whole};
 use crate::inner::Bits;
-use bitio::inner::copy;
-use bitio::inner::words;
+use bits::inner::words;
+use window::inner::copy;
 
 // The n lowest bits of a word.
 fn low(word: u64, n: u64) -> u64

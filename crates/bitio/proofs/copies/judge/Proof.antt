@@ -5,11 +5,11 @@ use native.Mathlib.Omega.{arith}
 use lib.Dec.{ltb}
 use borrow.Author.Needs.{needs}
 use borrow.Author.Tests.{lt-ltb, le-ltb}
-use Rattle.bitio.specs.Refusals.{beyond}
-use Rattle.bitio.specs.Parse.{Parse, _>>_, refuseIf}
-use Rattle.bitio.specs.Reads.{skip}
-use Rattle.bitio.specs.Copies.{copyBits}
-use Rattle.bitio.proofs.Rows.{refuses, lets-on}
+use Rattle.window.specs.Refusals.{beyond}
+use Rattle.window.specs.Parse.{Parse, _>>_, refuseIf}
+use Rattle.window.specs.Reads.{skip}
+use Rattle.window.specs.Copies.{copyBits}
+use Rattle.window.proofs.Rows.{refuses, lets-on}
 use Rattle.bitio.proofs.Tests.{stopped, went-on, tested}
 use Rattle.bitio.proofs.copies.judge.Statement.{statement}
 use Rattle.bitio.proofs.copies.judge.Tie as tie

@@ -1,7 +1,7 @@
 -- The tests, and then what `inner` reads.
 use mathlib.Core.Path.{sym, _∙_}
 use borrow.Author.Needs.{needs}
-use Rattle.bitio.specs.Reads.{bit, readBit}
+use Rattle.window.specs.Reads.{bit, readBit}
 use Rattle.bitio.proofs.Tests.{stopped, went-on, tested}
 use Rattle.bitio.proofs.reads.read_bit.Statement.{statement}
 use Rattle.bitio.proofs.reads.read_bit.Tie as tie

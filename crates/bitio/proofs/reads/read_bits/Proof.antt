@@ -4,10 +4,10 @@ use Prim.Native.Nat.{ℕ}
 use lib.Dec.{ltb}
 use borrow.Author.Needs.{needs}
 use borrow.Author.Tests.{lt-ltb, le-ltb}
-use Rattle.bitio.specs.Refusals.{tooWide}
-use Rattle.bitio.specs.Parse.{Parse, _>>_, refuseIf}
-use Rattle.bitio.specs.Reads.{bits, readBits}
-use Rattle.bitio.proofs.Rows.{refuses, lets-on}
+use Rattle.window.specs.Refusals.{tooWide}
+use Rattle.window.specs.Parse.{Parse, _>>_, refuseIf}
+use Rattle.window.specs.Reads.{bits, readBits}
+use Rattle.window.proofs.Rows.{refuses, lets-on}
 use Rattle.bitio.proofs.Tests.{stopped, went-on, tested}
 use Rattle.bitio.proofs.reads.read_bits.Statement.{statement}
 use Rattle.bitio.proofs.reads.read_bits.Tie as tie

@@ -2,10 +2,10 @@
 use mathlib.Core.Path.{sym, ap, _∙_}
 use lib.Ieee.{binary32}
 use borrow.Author.Needs.{needs}
-use Rattle.bitio.specs.declared.U32.{U32}
-use Rattle.bitio.specs.Floats.{reading}
-use Rattle.bitio.specs.Reads.{readBits, readF32}
-use Rattle.bitio.specs.Answers.{u32Answer}
+use Rattle.window.specs.declared.U32.{U32}
+use Rattle.bits.specs.Floats.{reading}
+use Rattle.window.specs.Reads.{readBits, readF32}
+use Rattle.window.specs.Answers.{u32Answer}
 use Rattle.bitio.proofs.Values.{made, not-made}
 use Rattle.bitio.proofs.reads.read_f32.Statement.{statement}
 use Rattle.bitio.proofs.reads.read_f32.Tie as tie

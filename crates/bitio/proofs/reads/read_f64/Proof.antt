@@ -2,10 +2,10 @@
 use mathlib.Core.Path.{sym, ap, _∙_}
 use lib.Ieee.{binary64}
 use borrow.Author.Needs.{needs}
-use Rattle.bitio.specs.declared.U64.{U64}
-use Rattle.bitio.specs.Floats.{reading}
-use Rattle.bitio.specs.Reads.{readBits, readF64}
-use Rattle.bitio.specs.Answers.{u64Answer}
+use Rattle.window.specs.declared.U64.{U64}
+use Rattle.bits.specs.Floats.{reading}
+use Rattle.window.specs.Reads.{readBits, readF64}
+use Rattle.window.specs.Answers.{u64Answer}
 use Rattle.bitio.proofs.Values.{made, not-made}
 use Rattle.bitio.proofs.reads.read_f64.Statement.{statement}
 use Rattle.bitio.proofs.reads.read_f64.Tie as tie

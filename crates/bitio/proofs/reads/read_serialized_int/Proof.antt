@@ -5,10 +5,10 @@ use native.Mathlib.Omega.{arith}
 use lib.Dec.{eqb}
 use borrow.Author.Needs.{needs}
 use borrow.Author.Tests.{eq-eqb, ne-eqb}
-use Rattle.bitio.specs.Refusals.{zeroMaximum}
-use Rattle.bitio.specs.Parse.{Parse, _>>_, refuseIf}
-use Rattle.bitio.specs.Reads.{serialized, readSerialized}
-use Rattle.bitio.proofs.Rows.{refuses, lets-on}
+use Rattle.window.specs.Refusals.{zeroMaximum}
+use Rattle.window.specs.Parse.{Parse, _>>_, refuseIf}
+use Rattle.window.specs.Reads.{serialized, readSerialized}
+use Rattle.window.proofs.Rows.{refuses, lets-on}
 use Rattle.bitio.proofs.Tests.{stopped, went-on, tested}
 use Rattle.bitio.proofs.reads.read_serialized_int.Statement.{statement}
 use Rattle.bitio.proofs.reads.read_serialized_int.Tie as tie

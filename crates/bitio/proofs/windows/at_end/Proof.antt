@@ -1,5 +1,5 @@
 -- The test is the definition.
-use Rattle.bitio.specs.Windows.{atEnd}
+use Rattle.window.specs.Windows.{atEnd}
 use mathlib.Core.Path.{refl}
 use Rattle.bitio.proofs.windows.at_end.Statement.{statement}
 use Rattle.bitio.proofs.windows.at_end.Tie as tie

@@ -1,6 +1,6 @@
 -- The test and its two cases.
 use borrow.Author.Tests.{lt-ltb, le-ltb}
-use Rattle.bitio.specs.Windows.{bitsRemaining}
+use Rattle.window.specs.Windows.{bitsRemaining}
 use Rattle.bitio.proofs.windows.bits_remaining.Statement.{statement}
 use Rattle.bitio.proofs.windows.bits_remaining.Tie as tie
 

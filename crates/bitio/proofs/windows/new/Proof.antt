@@ -1,7 +1,7 @@
 -- The test and its two cases.
 use borrow.Author.Tests.{lt-ltb, le-ltb}
 use borrow.Author.Needs.{needs}
-use Rattle.bitio.specs.Windows.{newWindow}
+use Rattle.window.specs.Windows.{newWindow}
 use Rattle.bitio.proofs.windows.new.Statement.{statement}
 use Rattle.bitio.proofs.windows.new.Tie as tie
 

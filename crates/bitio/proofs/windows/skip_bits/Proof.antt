@@ -1,8 +1,8 @@
 -- The tests, and then what `inner` skips.
 use mathlib.Core.Path.{sym, _∙_}
 use borrow.Author.Needs.{needs}
-use Rattle.bitio.specs.Reads.{skip}
-use Rattle.bitio.specs.Windows.{skipBits}
+use Rattle.window.specs.Reads.{skip}
+use Rattle.window.specs.Windows.{skipBits}
 use Rattle.bitio.proofs.Tests.{stopped, went-on, tested}
 use Rattle.bitio.proofs.windows.skip_bits.Statement.{statement}
 use Rattle.bitio.proofs.windows.skip_bits.Tie as tie

@@ -1,7 +1,7 @@
 -- The tests, and then the window at its end.
 use mathlib.Core.Path.{sym}
 use borrow.Author.Needs.{needs}
-use Rattle.bitio.specs.Windows.{ended, skipRemaining}
+use Rattle.window.specs.Windows.{ended, skipRemaining}
 use Rattle.bitio.proofs.Tests.{stopped, went-on}
 use Rattle.bitio.proofs.windows.skip_remaining.Statement.{statement}
 use Rattle.bitio.proofs.windows.skip_remaining.Tie as tie

@@ -2,7 +2,7 @@
 use mathlib.Core.Path.{sym, _∙_}
 use native.Mathlib.Omega.{arith}
 use borrow.Author.Needs.{needs}
-use Rattle.bitio.specs.Windows.{sub, subReader}
+use Rattle.window.specs.Windows.{sub, subReader}
 use Rattle.bitio.proofs.Tests.{stopped, went-on, tested}
 use Rattle.bitio.proofs.windows.sub_reader.Statement.{statement}
 use Rattle.bitio.proofs.windows.sub_reader.Tie as tie

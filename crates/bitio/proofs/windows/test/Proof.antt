@@ -3,8 +3,8 @@ use mathlib.Core.Path.{sym, _∙_, ap}
 use Prim.Native.Nat.{ℕ}
 use native.Mathlib.Omega.{arith}
 use borrow.Author.Needs.{needs}
-use Rattle.bitio.specs.Refusals.{beyond}
-use Rattle.bitio.specs.Parse.{refused}
+use Rattle.window.specs.Refusals.{beyond}
+use Rattle.window.specs.Parse.{refused}
 use Rattle.bitio.proofs.Tests.{too-long, past-data, past-window, fine}
 use Rattle.bitio.proofs.windows.test.Statement.{statement}
 use Rattle.bitio.proofs.windows.test.Tie as tie

@@ -1,7 +1,7 @@
 -- The two tests and their cases.
 use borrow.Author.Tests.{lt-ltb, le-ltb}
 use borrow.Author.Needs.{needs}
-use Rattle.bitio.specs.Windows.{withBitLen}
+use Rattle.window.specs.Windows.{withBitLen}
 use Rattle.bitio.proofs.windows.with_bit_len.Statement.{statement}
 use Rattle.bitio.proofs.windows.with_bit_len.Tie as tie
 

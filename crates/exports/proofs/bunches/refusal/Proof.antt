@@ -1,5 +1,5 @@
 -- Each case, by what the match told.
-use Rattle.bitio.specs.Refusals.{beyond}
+use Rattle.window.specs.Refusals.{beyond}
 use Rattle.packet.specs.Answers.{packetTooLong, unfit, unsound}
 use borrow.Author.Needs.{needs}
 use Rattle.exports.proofs.bunches.refusal.Statement.{statement}

@@ -1,6 +1,6 @@
 -- The position of the window that was made.
 use mathlib.Core.Path.{ap, _∙_}
-use Rattle.bitio.specs.declared.Window.{Window}
+use Rattle.window.specs.declared.Window.{Window}
 use borrow.Author.Needs.{needs}
 use Rattle.exports.proofs.windows.gritwheel_position.Statement.{statement}
 use Rattle.exports.proofs.windows.gritwheel_position.Tie as tie

@@ -1,5 +1,5 @@
 -- Each case, by what the match told.
-use Rattle.bitio.specs.Refusals.{tooFewBits, endless, tooLarge, zeroMaximum, beyond, tooWide, tooLong}
+use Rattle.window.specs.Refusals.{tooFewBits, endless, tooLarge, zeroMaximum, beyond, tooWide, tooLong}
 use borrow.Author.Needs.{needs}
 use Rattle.exports.proofs.words.refused.Statement.{statement}
 use Rattle.exports.proofs.words.refused.Tie as tie

@@ -1,5 +1,5 @@
 -- Each case, by what the match told.
-use Rattle.bitio.specs.Refusals.{beyond}
+use Rattle.window.specs.Refusals.{beyond}
 use Rattle.writer.specs.Answers.{payloadTooLong, payloadShort, unwritable, noRoom}
 use Rattle.exports_writer.specs.Words.{writtenWords}
 use borrow.Author.Needs.{needs}

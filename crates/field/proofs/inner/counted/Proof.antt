@@ -1,6 +1,6 @@
 -- Each way out is one law of Records, at what the count's read gave.
 use mathlib.Core.Path.{sym}
-use Rattle.bitio.proofs.Steps.{sound-past}
+use Rattle.window.proofs.Steps.{sound-past}
 use Rattle.field.proofs.Records.{told-value, told-refusal, counted-refused, overlong, whole}
 use borrow.Author.Needs.{needs}
 use Rattle.field.proofs.inner.counted.Statement.{statement}

@@ -2,7 +2,7 @@
 use mathlib.Core.Path.{sym, _∙_}
 use borrow.Author.Needs.{needs}
 use lib.Dec.{eqb}
-use Rattle.bitio.specs.Parse.{refuseIf}
+use Rattle.window.specs.Parse.{refuseIf}
 use Rattle.bitio.proofs.Tests.{stopped, went-on, tested}
 use Rattle.field.specs.Records.{look}
 use Rattle.field.specs.Walks.{unresolved}

@@ -1,8 +1,8 @@
 -- The ignored bit, the walk, and what is left after its end.
 use mathlib.Core.Path.{ap, sym, _∙_}
 use borrow.Author.Needs.{needs}
-use Rattle.bitio.specs.declared.Bit.{Bit}
-use Rattle.bitio.specs.Answers.{bitAnswer}
+use Rattle.window.specs.declared.Bit.{Bit}
+use Rattle.window.specs.Answers.{bitAnswer}
 use Rattle.field.specs.Records.{look}
 use Rattle.field.specs.Walks.{settle}
 use Rattle.field.proofs.Opens.{past-bit, layout-refused, layout-opened}

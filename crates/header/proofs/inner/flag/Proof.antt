@@ -1,9 +1,9 @@
 -- Not asked for, or the bit's read.
 use mathlib.Core.Bool.{false}
 use mathlib.Core.Path.{refl, sym, ap, _∙_}
-use Rattle.bitio.specs.declared.Bit.{Bit}
-use Rattle.bitio.specs.Answers.{bitAnswer}
-use Rattle.bitio.specs.Reads.{bit}
+use Rattle.window.specs.declared.Bit.{Bit}
+use Rattle.window.specs.Answers.{bitAnswer}
+use Rattle.window.specs.Reads.{bit}
 use Rattle.header.specs.Row.{settled}
 use Rattle.header.proofs.Rows.{skips, takes}
 use borrow.Author.Needs.{needs}

@@ -1,7 +1,7 @@
 -- The value, or the row's end.
 use mathlib.Core.Path.{refl, sym, ap}
-use Rattle.bitio.specs.declared.U32.{U32}
-use Rattle.bitio.specs.Answers.{u32Answer}
+use Rattle.window.specs.declared.U32.{U32}
+use Rattle.window.specs.Answers.{u32Answer}
 use Rattle.header.specs.Row.{settled}
 use borrow.Author.Needs.{needs}
 use Rattle.header.proofs.inner.number.Statement.{statement}

@@ -6,7 +6,7 @@ use mathlib.Core.List.{List, [], _∷_}
 use native.Mathlib.Omega.{arith}
 use lib.ListN.{length}
 use borrow.Author.Tests.{ltb-true}
-use Rattle.bitio.specs.Parse.{value}
+use Rattle.window.specs.Parse.{value}
 use Rattle.writer.specs.Bits.{bitsOf}
 use Rattle.writer.specs.Answers.{noRoom, refuses}
 use Rattle.writer.proofs.Calls.{close-five, close-adds, seventeen, puts, there}

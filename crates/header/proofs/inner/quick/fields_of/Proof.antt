@@ -2,7 +2,7 @@
 use Prim.Native.Nat.{_≤_}
 use native.Mathlib.Omega.{arith}
 use borrow.Author.Needs.{needs}
-use Rattle.bitio.specs.Parse.{readIf}
+use Rattle.window.specs.Parse.{readIf}
 use Rattle.header.specs.Header.{fields}
 use Rattle.header.proofs.Words.{then, gives}
 use Rattle.header.proofs.inner.quick.fields_of.Statement.{statement}

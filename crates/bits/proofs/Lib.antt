@@ -1,0 +1,5 @@
+pub mod Numbers
+pub mod Loads
+pub mod Table
+pub mod Floats
+pub mod Signed

@@ -1,0 +1,123 @@
+-- A read stays in its window: it changes neither start nor length, and goes on or stays where it is. And what it reads at least.
+use mathlib.Core.Path.{_≡_, refl, sym, _∙_}
+use mathlib.Core.Bool.{Bool, true, false}
+use mathlib.Core.List.{List}
+use Prim.Native.Nat.{ℕ, zero, suc, _+_, _-_, _/_, _%_, _^_, _≤_}
+use native.Mathlib.Decide.{decLe}
+use native.Mathlib.Omega.{arith}
+use lib.Dec.{eqb, ltb}
+use Rattle.window.specs.declared.Window.{Window}
+use Rattle.window.specs.declared.Place.{Place}
+use Rattle.bits.specs.Bits.{bitsAt}
+use Rattle.window.specs.Refusals.{Refusal, endless, tooLarge, placeOf}
+use Rattle.window.specs.Parse.{Answer, got, refused, Parse, andThen, _>>=_, _>>_, give, refuse, refuseIf, readIf, place, advanced}
+use Rattle.window.specs.Reads.{bits, packedFrom, packed, log2, serialized}
+use Rattle.window.specs.Sound.{Sound}
+use Rattle.window.proofs.Rows.{not-refused, then-got, then-refused}
+use Rattle.window.proofs.Steps.{bits-short, bits-there}
+
+pub record Stays (w u : Window) : Type 0 where
+  pub start : u .start .0 ≡ w .start .0
+  pub length : u .length ≡ w .length
+  pub on : w .position .0 ≤ u .position .0
+  pub within : w .position .0 ≤ w .length → u .position .0 ≤ u .length
+
+pub stays : (w : Window) → Stays w w
+stays w = record { start = refl; length = refl; on = omega arith; within = λ h. h }
+
+pub stays-on : {w u v : Window} → Stays w u → Stays u v → Stays w v
+stays-on a b =
+    record {
+      start = b .start ∙ a .start;
+      length = b .length ∙ a .length;
+      on = omega (arith, a .on, b .on);
+      within = λ h. b .within (a .within h);
+    }
+
+pub sound-stays : {d : List ℕ} {w u : Window} → Sound d w → Stays w u → Sound d u
+sound-stays s a =
+    record {
+      data-fits = s .data-fits;
+      window-fits = rw (a .start, a .length) (s .window-fits);
+      cursor-fits = a .within (s .cursor-fits);
+    }
+
+-- where an answer leaves the reader
+abbrev pub left : {A : Type 0} → Answer A → Window
+left (got a u) = u
+left (refused e u) = u
+
+pub record Keeps {A : Type 0} (p : Parse A) : Type 0 where
+  pub keeps : (d : List ℕ) (w : Window) → Stays w (left (p d w))
+
+module _ {A B : Type 0} where
+  then-left : (x : Answer A) (k : A → Window → Answer B) {w : Window} → Stays w (left x) → ((a : A) (u : Window) → Stays u (left (k a u))) → Stays w (left (andThen x k))
+  then-left (got a u) k s f = stays-on s (f a u)
+  then-left (refused e u) k s f = s
+
+  pub keeps-then : {p : Parse A} {k : A → Parse B} → Keeps p → ((a : A) → Keeps (k a)) → Keeps (p >>= k)
+  unfolding _>>=_
+  keeps-then {p = p} {k = k} f g = record { keeps = λ d w. then-left (p d w) (λ a. k a d) (f .keeps d w) (λ a u. g a .keeps d u) }
+
+  pub keeps-next : {p : Parse A} {q : Parse B} → Keeps p → Keeps q → Keeps (p >> q)
+  unfolding _>>_
+  keeps-next {p = p} {q = q} f g = record { keeps = λ d w. then-left (p d w) (λ a. q d) (f .keeps d w) (λ a u. g .keeps d u) }
+
+module _ {A : Type 0} where
+  pub keeps-give : (a : A) → Keeps (give a)
+  unfolding give
+  keeps-give a = record { keeps = λ d w. stays w }
+
+  pub keeps-if : (t : Bool) (a : A) {p : Parse A} → Keeps p → Keeps (readIf t a p)
+  unfolding readIf
+  keeps-if true a f = f
+  keeps-if false a f = keeps-give a
+
+pub keeps-refuse : (t : Bool) (e : Refusal) → Keeps (refuseIf t e)
+unfolding refuseIf refuse
+keeps-refuse true e = record { keeps = λ d w. stays w }
+keeps-refuse false e = keeps-give tt
+
+pub past : (w : Window) (n : ℕ) → n ≤ w .length - w .position .0 → Stays w (advanced w n)
+past w n h = record { start = refl; length = refl; on = omega arith; within = λ f. omega arith }
+
+pub keeps-bits : (n : ℕ) → Keeps (bits n)
+keeps-bits n = record { keeps = λ d w. go d w (decLe n (w .length - w .position .0)) }
+  where
+    go : (d : List ℕ) (w : Window) → Dec (n ≤ w .length - w .position .0) → Stays w (left (bits n d w))
+    go d w (yes h) = rw (bits-there d w n h) (past w n h)
+    go d w (no h) = rw (bits-short d w n (omega arith)) (stays w)
+
+pub keeps-packed-from : (n : ℕ) (p : Place) → Keeps (packedFrom n p)
+unfolding packedFrom
+keeps-packed-from zero p =
+    keeps-then (keeps-bits 8) (λ b. keeps-next (keeps-refuse (eqb (b % 2) 1) (endless p)) (keeps-next (keeps-refuse (ltb 15 (b / 2)) (tooLarge p)) (keeps-give (b / 2))))
+keeps-packed-from (suc n) p =
+    keeps-then (keeps-bits 8) (λ b. keeps-then (keeps-if (eqb (b % 2) 1) 0 (keeps-packed-from n p)) (λ r. keeps-give _))
+
+pub keeps-packed : Keeps packed
+unfolding packed place
+keeps-packed = keeps-then (record { keeps = λ d w. stays w }) (λ p. keeps-packed-from 4 p)
+
+pub keeps-serialized : (m : ℕ) → Keeps (serialized m)
+unfolding serialized
+keeps-serialized m = keeps-then (keeps-bits (log2 m)) (λ v. keeps-then (keeps-if (ltb (v + 2 ^ log2 m) m) 0 (keeps-bits 1)) (λ t. keeps-give _))
+
+-- a row that begins with n bits has read at least these where it gives a value
+pub reads-first : {A : Type 0} (n : ℕ) {k : ℕ → Parse A} → ((b : ℕ) → Keeps (k b)) → (d : List ℕ) (w : Window) {a : A} {u : Window} → (bits n >>= k) d w ≡ got a u
+    → w .position .0 + n ≤ u .position .0
+reads-first n {k} f d w {a} {u} e = go (decLe n (w .length - w .position .0))
+  where
+    go : Dec (n ≤ w .length - w .position .0) → w .position .0 + n ≤ u .position .0
+    go (yes h) =
+        let b : ℕ = bitsAt d (w .start .0 + w .position .0) n in
+        let s : Stays (advanced w n) (left (k b d (advanced w n))) = f b .keeps d (advanced w n) in
+        let g : k b d (advanced w n) ≡ got a u = sym (then-got d w (bits n) k (bits-there d w n h)) ∙ e in
+        rw g at s .on
+    go (no h) = absurd (not-refused (sym (then-refused d w (bits n) k (bits-short d w n (omega arith))) ∙ e))
+
+pub packed-reads : (d : List ℕ) (w : Window) {v : ℕ} {u : Window} → packed d w ≡ got v u → w .position .0 + 8 ≤ u .position .0
+unfolding packed packedFrom place
+packed-reads d w e =
+    reads-first 8 (λ b. keeps-then (keeps-if (eqb (b % 2) 1) 0 (keeps-packed-from 3 (placeOf w))) (λ r. keeps-give _)) d w
+    (sym (then-got d w place (packedFrom 4) refl) ∙ e)
