@@ -52,3 +52,14 @@ module _ (f : BunchFields) (d : List ℕ) (n : ℕ) {l m : ℕ} {u v : Bits} (a 
       ∙ put-append p at (spelt u) (spelt v ++ bitsFrom d 0 n)
       ∙ put-append (put p at (spelt u)) (at + length (spelt u)) (spelt v) (bitsFrom d 0 n)
       ∙ ap₂ (λ (i j : ℕ). put (put (put p at (spelt u)) (at + i) (spelt v)) (at + i + j) (bitsFrom d 0 n)) (length-bitsOf (u .count) (u .word)) (length-bitsOf (v .count) (v .word)))
+
+-- a second word's bits added to the first
+module _ (u v : Bits) {m : ℕ} {q : Bits} (a : Adds m u (spelt v) q) where
+  pub both-count : q .count ≡ u .count + v .count
+  both-count =
+      omega (arith, length-bitsOf (q .count) (q .word), ap length (a .spells), length-append (spelt u) (spelt v), length-bitsOf (u .count) (u .word), length-bitsOf (v .count) (v .word))
+
+  pub put-both : (p : List ℕ) (at : ℕ) → put p at (spelt q) ≡ put (put p at (spelt u)) (at + u .count) (spelt v)
+  put-both p at =
+      ap (put p at) (a .spells) ∙ put-append p at (spelt u) (spelt v)
+      ∙ ap (λ (i : ℕ). put (put p at (spelt u)) (at + i) (spelt v)) (length-bitsOf (u .count) (u .word))

@@ -1,8 +1,8 @@
 -- A word's bits, put one after the other, are its bytes stored from the cursor's byte on.
 use mathlib.Core.Path.{_≡_, refl, ap, ap₂, sym, _∙_}
 use mathlib.Core.List.{List}
-use Prim.Native.Nat.{ℕ, zero, suc, _+_, _*_, _/_, _%_, _^_, _≤_, _<_}
-use native.Mathlib.Nat.{add-zero, zero-add, div-one, add-mul, suc-mul, mul-comm, mul-assoc, mul-le-mul-right, mod-lt, mod-eq-of-lt, pow-succ', not-suc-le-zero, lt-of-lt-of-le}
+use Prim.Native.Nat.{ℕ, zero, suc, _+_, _*_, _-_, _/_, _%_, _^_, _≤_, _<_}
+use native.Mathlib.Nat.{zero-add, add-mul, suc-mul, mul-comm, mul-assoc, mul-le-mul-right, mod-lt, mod-eq-of-lt, pow-succ', not-suc-le-zero, lt-of-lt-of-le}
 use native.Mathlib.Numerals.{add-one}
 use native.Mathlib.Decide.{decLe}
 use native.Mathlib.Omega.{arith}
@@ -13,7 +13,8 @@ use lib.Seq.{set-set, getD-set-same}
 use mir.Val.{boolByte}
 use Rattle.bits.specs.Bits.{bitsAt}
 use Rattle.bits.specs.Words.{Peeked, stored}
-use Rattle.bits.proofs.Numbers.{bits-lt}
+use Rattle.bits.proofs.Loads.{peeked-low}
+use Rattle.bits.proofs.Numbers.{bits-lt, bits-front}
 use Rattle.writer.specs.Bits.{bitsOf, bitsFrom, putBit, put}
 use Rattle.writer.proofs.Lists.{length-bitsFrom, from-append, of-at, put-append}
 
@@ -144,9 +145,13 @@ word-pushed p d k j {x} b e g =
 
 -- the lowest bits of a peeked word
 pub peeked-bits : (d : List ℕ) (k n : ℕ) {x y : ℕ} → Peeked d k x → n ≤ 57 → y ≡ x % 2 ^ n → bitsOf n y ≡ bitsFrom d k n
-peeked-bits d k n {x} h s e =
-    ap (bitsOf n) (e ∙ ap (λ (z : ℕ). z % 2 ^ n) (sym (div-one x)) ∙ h .field 0 n (omega arith) ∙ ap (λ (i : ℕ). bitsAt d i n) (add-zero k))
-    ∙ of-at d k n
+peeked-bits d k n h s e = ap (bitsOf n) (e ∙ peeked-low d k n h s) ∙ of-at d k n
+
+-- and of eight bytes' worth
+pub word-bits : (d : List ℕ) (k n : ℕ) {x y : ℕ} → x ≡ bitsAt d k 64 → n ≤ 64 → y ≡ x % 2 ^ n → bitsOf n y ≡ bitsFrom d k n
+word-bits d k n b s e =
+    let m : 64 ≡ n + (64 - n) = omega arith in
+    ap (bitsOf n) (e ∙ ap (λ (x : ℕ). x % 2 ^ n) (b ∙ ap (bitsAt d k) m) ∙ bits-front d k n (64 - n)) ∙ of-at d k n
 
 -- q has a payload's first m bits, and t n more
 pub put-more : (p d : List ℕ) (k m n : ℕ) {q t : List ℕ} → q ≡ put p k (bitsFrom d 0 m) → t ≡ put q (k + m) (bitsFrom d m n) → t ≡ put p k (bitsFrom d 0 (m + n))

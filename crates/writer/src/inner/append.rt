@@ -16,13 +16,25 @@ use crate::inner::words;
 use header::BunchFields;
 use window::PacketBit;
 
-// The header's two words, and the payload.
+// The header's two words, as one where they fit into it.
+fn lay_header(packet: &mut [u8], at: u64, front: Bits, back: Bits)
+    requires { ⌜ Piece front × Piece back × (at + front .count + back .count ≤ 8 * length (now packet)) × (at ≤ 524280) ⌝ }
+    ensures { λ r. ⌜ now (packet .exit) ≡ put (put (now (packet .entry)) at (spelt front)) (at + front .count) (spelt back) ⌝ }
+{
+    if front.count + back.count > 56 {
+        push::push(packet, at, front);
+        push::push(packet, at + front.count, back);
+        return;
+    }
+    push::push(packet, at, words::add(front, back.word, back.count));
+}
+
+// The header and the payload.
 fn lay(packet: &mut [u8], at: u64, front: Bits, back: Bits, payload: &[u8], count: u64)
     requires { ⌜ Piece front × Piece back × (count ≤ 8 * length (now payload)) × (at + front .count + back .count + count ≤ 8 * length (now packet)) × (at + front .count + back .count + count ≤ 524280) ⌝ }
     ensures { λ r. ⌜ now (packet .exit) ≡ put (put (put (now (packet .entry)) at (spelt front)) (at + front .count) (spelt back)) (at + front .count + back .count) (bitsFrom (now (payload .entry)) 0 count) ⌝ }
 {
-    push::push(packet, at, front);
-    push::push(packet, at + front.count, back);
+    lay_header(packet, at, front, back);
     push::payload(packet, at + front.count + back.count, payload, count);
 }
 

@@ -38,19 +38,31 @@ fn least(a: u64, b: u64) -> u64
     if a < b { a } else { b }
 }
 
-// The payload's next bits, and how many they were: eight whole bytes where the cursor is at a byte's start, else what brings
-// it to one, or to the payload's end.
+// The payload's next bits, and how many they were: what fills eight bytes from the cursor's on, and with fewer than 64 left what
+// brings the cursor to a byte's start, or to the payload's end.
 fn step(packet: &mut [u8], at: u64, payload: &[u8], from: u64, left: u64) -> u64
     requires { ⌜ (0 < left) × (from + left ≤ 8 * length (now payload)) × (at + left ≤ 8 * length (now packet)) ⌝ }
     ensures reached { λ r. ⌜ (0 < r) × (r ≤ left) ⌝ }
     ensures leaves { λ r. ⌜ now (packet .exit) ≡ put (now (packet .entry)) at (bitsFrom (now (payload .entry)) from r) ⌝ }
 {
     let off = at % 8;
-    if off == 0 {
-        if left >= 64 {
-            copy::store(packet, (at / 8) as usize, words::word_at(payload, from), 8);
+    if left >= 64 {
+        let eight = words::word_at(payload, from);
+        if off == 0 {
+            copy::store(packet, (at / 8) as usize, eight, 8);
             return 64;
         }
+        let filling = 64 - off;
+        let word = low(eight, filling);
+        push(
+            packet,
+            at,
+            Bits {
+                word,
+                count: filling,
+            },
+        );
+        return filling;
     }
     let count = least(left, 56 - off);
     let word = low(words::peek(payload, from), count);

@@ -16,7 +16,7 @@ fn only_if(wanted: bool, n: u64) -> u64
 }
 
 // The number `width` bits wide, above the bits that are there.
-fn add(q: Bits, value: u64, width: u64) -> Bits
+pub fn add(q: Bits, value: u64, width: u64) -> Bits
     requires { ⌜ Whole q × (value < 2 ^ width) × (q .count + width ≤ 56) ⌝ }
     ensures { λ r. ⌜ Adds width q (bitsOf width value) r ⌝ }
 {
