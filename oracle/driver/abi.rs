@@ -11,7 +11,7 @@ pub type WalkOut = [u64; 8];
 /// A packet reader's opening: 0 or the refusal's number, the limit, and the live places of both tables.
 pub type ReaderOut = [u64; 4];
 
-/// A reading call's (crates/exports/specs/Packets.antt).
+/// A reading call's (crates/exports_packet/specs/Packets.antt).
 pub type BunchOut = [u64; 34];
 
 /// A writing call's: 0 and up to which bit the packet is written, or the refusal's number and what it returns.

@@ -3,9 +3,9 @@ ghost use mathlib.Core.Path.{_≡_};
 ghost use Prim.Native.Nat.{_+_};
 ghost use lib.ListN.{length};
 ghost use Rattle.window.specs.Copies.{copyBits, copyLeaves};
-ghost use Rattle.exports.specs.Words.{windowAt, words, none};
-use crate::words;
-use crate::words::Words;
+ghost use Rattle.answers.specs.Words.{windowAt, words, none};
+use answers::words;
+use answers::words::Words;
 use bitio::copies;
 
 #[no_mangle]

@@ -1,9 +1,9 @@
 // Reads. Each writes the seven words of its answer.
 ghost use mathlib.Core.Path.{_≡_};
 ghost use Rattle.window.specs.Reads.{readBit, readBits, readI32, readF32, readF64, readPacked, readSerialized};
-ghost use Rattle.exports.specs.Words.{windowAt, words, one, flag, signedWord, pattern, float};
-use crate::words;
-use crate::words::Words;
+ghost use Rattle.answers.specs.Words.{windowAt, words, one, flag, signedWord, pattern, float};
+use answers::words;
+use answers::words::Words;
 use bitio::reads;
 
 #[no_mangle]

@@ -2,10 +2,10 @@
 ghost use mathlib.Core.Path.{_≡_};
 ghost use mathlib.Core.Bool.{true, false};
 ghost use Rattle.field.specs.Walks.{parseRepLayout, parseClassNetCache};
-ghost use Rattle.exports.specs.Words.{windowAt};
-ghost use Rattle.exports.specs.Walks.{walkWords};
-use crate::words;
-use crate::words::WalkWords;
+ghost use Rattle.answers.specs.Words.{windowAt};
+ghost use Rattle.answers.specs.Walks.{walkWords};
+use answers::words;
+use answers::words::WalkWords;
 use field::Record;
 use field::walks;
 

@@ -1,9 +1,9 @@
 // Windows, and moving in them.
 ghost use mathlib.Core.Path.{_≡_};
 ghost use Rattle.window.specs.Windows.{newWindow, withBitLen, bitsRemaining, atEnd, subReader, skipBits, skipRemaining};
-ghost use Rattle.exports.specs.Words.{windowAt, words, openedWords, countWords, none, window};
-use crate::words;
-use crate::words::Words;
+ghost use Rattle.answers.specs.Words.{windowAt, words, openedWords, countWords, none, window};
+use answers::words;
+use answers::words::Words;
 use bitio::windows;
 
 #[no_mangle]

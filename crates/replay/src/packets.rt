@@ -8,7 +8,7 @@ use crate::calls::Given;
 use crate::record;
 use crate::walks;
 use bits::inner::signed;
-use exports::packets;
+use exports_packet::packets;
 
 fn load(target: &[u8], at: usize, column: &mut [u32])
     requires { ⌜ (length (now column) ≡ 5) × (at < 256) ⌝ }

@@ -6,9 +6,9 @@ ghost use Rattle.packet.specs.Packet.{dataBits, nextBunch};
 ghost use Rattle.packet.specs.Memory.{memory, channelsOf};
 ghost use Rattle.packet.specs.State.{State};
 ghost use Rattle.packet.specs.Answers.{reply};
-ghost use Rattle.exports.specs.Packets.{bunchWords};
-use exports::bunches;
-use exports::bunches::BunchWords;
+ghost use Rattle.exports_packet.specs.Packets.{bunchWords};
+use exports_packet::bunches;
+use exports_packet::bunches::BunchWords;
 use packet::Reader;
 use packet::inner::read;
 

@@ -45,7 +45,7 @@ fn agree(a: bool, b: bool) -> bool
     if a { b } else { !b }
 }
 
-fn continues(held_sequence: u32, held_reliable: u32, reliable: bool, sequence: u32) -> bool
+pub fn continues(held_sequence: u32, held_reliable: u32, reliable: bool, sequence: u32) -> bool
     ensures { λ r. ⌜ r ≡ continues («held_sequence», «held_reliable») reliable sequence ⌝ }
 {
     let next = following(held_sequence);

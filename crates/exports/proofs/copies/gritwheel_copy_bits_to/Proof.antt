@@ -1,6 +1,6 @@
 -- The words of what the call answers, and what it left in the target.
 use mathlib.Core.Path.{ap, _∙_}
-use Rattle.exports.specs.Words.{words, none}
+use Rattle.answers.specs.Words.{words, none}
 use borrow.Author.Needs.{needs}
 use Rattle.exports.proofs.copies.gritwheel_copy_bits_to.Statement.{statement}
 use Rattle.exports.proofs.copies.gritwheel_copy_bits_to.Tie as tie

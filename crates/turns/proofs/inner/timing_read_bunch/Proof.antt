@@ -1,6 +1,6 @@
 -- The words of what the call answers, and what it left in the tables.
 use borrow.Author.Needs.{needs}
-use Rattle.exports.proofs.Told.{told-bunch}
+use Rattle.exports_packet.proofs.Told.{told-bunch}
 use Rattle.turns.proofs.inner.timing_read_bunch.Statement.{statement}
 use Rattle.turns.proofs.inner.timing_read_bunch.Tie as tie
 

@@ -1,0 +1,15 @@
+-- The seven words of the stop, and the count.
+use borrow.Author.Needs.{needs}
+use Rattle.answers.specs.Walks.{stop}
+use Rattle.answers.proofs.Seven.{seven-words}
+use Rattle.answers.proofs.words.of_walk.Statement.{statement}
+use Rattle.answers.proofs.words.of_walk.Tie as tie
+
+with-count-requires : tie.Need-with-count-requires
+with-count-requires c κs = rw (c .of-stop .ensures) (seven-words stop _)
+
+returns : tie.Need-returns
+returns c = cc
+
+pub of-walk-spec : {M : Type 1} → statement M
+of-walk-spec = tie.close (tie.spec (λ c κs. search needs) with-count-requires returns)

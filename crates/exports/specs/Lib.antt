@@ -1,3 +1,0 @@
-pub mod Packets
-pub mod Walks
-pub mod Words

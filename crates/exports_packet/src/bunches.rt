@@ -1,0 +1,198 @@
+// A packet reader's answers as words.
+ghost use mathlib.Core.Path.{_≡_};
+ghost use mathlib.Core.List.{[], _∷_, _++_};
+ghost use lib.ListN.{getD};
+ghost use mir.Syntax.{w32};
+ghost use mir.Val.{ofZ};
+ghost use Rattle.packet.specs.Memory.{Memory};
+ghost use Rattle.packet.specs.Answers.{packetPaper, ofOpened, ofRead};
+ghost use Rattle.answers.specs.Words.{window};
+ghost use Rattle.words.specs.Words.{reasonWord, kindWord, headerWords};
+ghost use Rattle.exports_packet.specs.Packets.{noBunch, bunchWords, readerWords};
+use bits::inner::signed;
+use packet::Bunch;
+use packet::BunchRead;
+use packet::Opened;
+use packet::PacketError;
+use types::ChannelCloseReason;
+use types::PartialSequenceKind;
+use types::RawBunchHeader;
+use window::Window;
+
+pub type ReaderWords = [u64; 4];
+
+pub type BunchWords = [u64; 34];
+
+pub fn of_opened(r: Opened) -> ReaderWords
+    ensures { λ x. ⌜ x ≡ readerWords (ofOpened r) ⌝ }
+{
+    match r {
+        Opened::Value(v) => [
+            0,
+            v.max_channels as u64,
+            v.sequences as u64,
+            v.partials as u64,
+        ],
+        Opened::Refused(e) => {
+            let said = refusal(e);
+            [said.number, 0, 0, 0]
+        }
+    }
+}
+
+struct Numbers {
+    number: u64,
+    first: u64,
+    second: u64,
+}
+
+fn refusal(e: PacketError) -> Numbers
+    ensures { λ r. ⌜ r ≡ record { number = packetPaper e .number; first = getD (packetPaper e .returns) 0 0; second = getD (packetPaper e .returns) 1 0 } ⌝ }
+{
+    match e {
+        PacketError::CursorPastEnd {
+            position,
+            available,
+        } => said(5, position, available),
+        PacketError::PacketTooLong { length } => said(8, length, 0),
+        PacketError::Unfit => said(9, 0, 0),
+        PacketError::Unsound => said(10, 0, 0),
+    }
+}
+
+fn said(number: u64, first: u64, second: u64) -> Numbers
+    ensures { λ r. ⌜ r ≡ record { number = number; first = first; second = second } ⌝ }
+{
+    Numbers {
+        number,
+        first,
+        second,
+    }
+}
+
+fn reason(r: ChannelCloseReason) -> u64
+    ensures { λ x. ⌜ x ≡ reasonWord r ⌝ }
+{
+    match r {
+        ChannelCloseReason::Destroyed => 0,
+        ChannelCloseReason::Dormancy => 1,
+    }
+}
+
+fn kind(k: PartialSequenceKind) -> u64
+    ensures { λ x. ⌜ x ≡ kindWord k ⌝ }
+{
+    match k {
+        PartialSequenceKind::None => 0,
+        PartialSequenceKind::MissingInitial => 1,
+        PartialSequenceKind::OverlappingInitial => 2,
+        PartialSequenceKind::MismatchedContinuation => 3,
+        PartialSequenceKind::NonByteAlignedFragment => 4,
+    }
+}
+
+// No bunch: the words of one are 0.
+fn without_bunch(r: BunchRead, said: Numbers, case: u64) -> BunchWords
+    ensures { λ x. ⌜ x ≡ said .number ∷ said .first ∷ said .second ∷ case ∷ r .next .0 ∷ r .bunches ∷ r .malformed ∷ r .«partial_errors» ∷ r .«channel_limit» ∷ r .sequences ∷ r .partials ∷ noBunch ⌝ }
+{
+    let next = r.next;
+    [
+        said.number,
+        said.first,
+        said.second,
+        case,
+        next.0,
+        r.bunches as u64,
+        r.malformed as u64,
+        r.partial_errors as u64,
+        r.channel_limit as u64,
+        r.sequences as u64,
+        r.partials as u64,
+        0,
+        0,
+        0,
+        0,
+        0,
+        0,
+        0,
+        0,
+        0,
+        0,
+        0,
+        0,
+        0,
+        0,
+        0,
+        0,
+        0,
+        0,
+        0,
+        0,
+        0,
+        0,
+        0,
+    ]
+}
+
+fn with_bunch(r: BunchRead, h: RawBunchHeader, w: Window) -> BunchWords
+    ensures { λ x. ⌜ x ≡ 0 ∷ 0 ∷ 0 ∷ 0 ∷ r .next .0 ∷ r .bunches ∷ r .malformed ∷ r .«partial_errors» ∷ r .«channel_limit» ∷ r .sequences ∷ r .partials ∷ (headerWords h ++ window w) ⌝ }
+{
+    let next = r.next;
+    let start = w.start;
+    let position = w.position;
+    let close_reason = h.close_reason;
+    let partial_error_kind = h.partial_error_kind;
+    let bits = h.payload_bit_count as u64;
+    let id = signed::to_word(h.packet_id) as u64;
+    let sequence = signed::to_word(h.ch_sequence) as u64;
+    let closed = reason(close_reason);
+    let wrong = kind(partial_error_kind);
+    [
+        0,
+        0,
+        0,
+        0,
+        next.0,
+        r.bunches as u64,
+        r.malformed as u64,
+        r.partial_errors as u64,
+        r.channel_limit as u64,
+        r.sequences as u64,
+        r.partials as u64,
+        id,
+        h.ch_index as u64,
+        h.b_open as u64,
+        h.b_close as u64,
+        h.b_dormant as u64,
+        h.b_is_replication_paused as u64,
+        h.b_reliable as u64,
+        h.b_partial as u64,
+        h.b_partial_initial as u64,
+        h.b_partial_final as u64,
+        h.b_has_package_map_exports as u64,
+        h.b_has_must_be_mapped_guids as u64,
+        sequence,
+        closed,
+        bits,
+        h.payload_bit_offset,
+        h.has_partial_error as u64,
+        wrong,
+        h.is_partial_completed as u64,
+        h.has_channel_limit_error as u64,
+        start.0,
+        position.0,
+        w.length,
+    ]
+}
+
+pub fn of_read(r: BunchRead) -> BunchWords
+    ensures { λ x. ⌜ ((m : Memory) → x ≡ bunchWords (ofRead r m)) ⌝ }
+{
+    let answer = r.answer;
+    match answer {
+        Bunch::Read { header, payload } => with_bunch(r, header, payload),
+        Bunch::End => without_bunch(r, said(0, 0, 0), 1),
+        Bunch::Malformed => without_bunch(r, said(0, 0, 0), 2),
+        Bunch::Refused(e) => without_bunch(r, refusal(e), 0),
+    }
+}

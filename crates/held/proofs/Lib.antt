@@ -1,0 +1,8 @@
+pub mod Sums
+pub mod Passing
+pub mod Soundness
+pub mod Holding
+pub mod Laying
+pub mod Keeping
+pub mod Edits
+pub mod Moves

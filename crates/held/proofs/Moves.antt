@@ -1,0 +1,59 @@
+-- The arena's part of an edit, in the numbers that the code has: where the message starts, its bytes, and the bytes that are used.
+use Prim.Native.Nat.{ℕ, _+_, _≤_, _<_}
+use mathlib.Core.Path.{_≡_, refl, sym, ap, _∙_}
+use mathlib.Core.List.{List, [], _++_}
+use native.Mathlib.Omega.{arith}
+use lib.ListN.{length, getD, set, take, length-map, List·getD-map}
+use lib.Seq.{take-length}
+use Rattle.tables.specs.Columns.{laid, insertedAt, removedAt}
+use Rattle.tables.specs.Tables.{values}
+use Rattle.places.specs.Bytes.{pasted, part}
+use Rattle.places.specs.Packed.{joined, start}
+use Rattle.places.proofs.Packed.{start-next}
+use Rattle.places.proofs.Arena.{removed, inserted, changed, replaced}
+use Rattle.judging.specs.Held.{Held}
+use Rattle.held.specs.declared.Accumulator.{Accumulator}
+use Rattle.held.specs.Memory.{Memory, sizeOf, sizeAll, heldAt, bytesAll}
+use Rattle.held.specs.State.{Stands}
+use Rattle.held.specs.Calls.{heldBy}
+use Rattle.held.proofs.Holding.{messageAt, columns, message-at, bytes-first, starts, starts-next}
+use Rattle.held.proofs.Edits.{packed}
+
+module _ (a : Accumulator) (m : Memory) (s : Stands a m) (i : ℕ) where
+  abbrev p : List ℕ
+  p = getD (m .places) i []
+
+  module _ (h : i < a .active) where
+    pub packed-at : getD (packed a m) i [] ≡ messageAt m i .message .bytes
+    unfolding heldAt
+    packed-at = List·getD-map (λ (x : Held). x .message .bytes) (values (heldBy a m)) i (heldAt [] []) ∙ ap (λ (x : Held). x .message .bytes) (message-at a m s (heldAt [] []) i h)
+
+    packed-within : i < length (packed a m)
+    packed-within = omega (arith, length-map (values (heldBy a m)) (λ (x : Held). x .message .bytes), length-map (heldBy a m) (λ (e : ℕ × Held). e .1), columns a m s .size)
+
+  -- the n bytes from `from` on, up to the last that is used, have moved to `to`
+  module _ (from to n : ℕ) (used : from + n ≡ length (bytesAll (heldBy a m))) {moved : List ℕ} (moves : moved ≡ pasted to (part from n (m .arena)) (m .arena)) where
+    -- up from where a message is to stand, and its bytes are pasted there
+    pub bytes-in : (b : List ℕ) {out : List ℕ} → i ≤ a .active → from ≡ sizeAll (take i (m .places)) → to ≡ from + length b → to ≤ length (m .arena)
+        → out ≡ pasted from b moved → out ≡ laid (joined (insertedAt i b (packed a m))) (m .arena)
+    bytes-in b h e f g pastes = inserted (packed a m) (m .arena) (bytes-first a m s) i from to n used moves b (e ∙ sym (starts a m s i h)) f g pastes
+
+    module _ (h : i < a .active) (next : from ≡ sizeAll (take i (m .places)) + sizeOf p) where
+      -- down over message i
+      pub bytes-out : to ≡ sizeAll (take i (m .places)) → moved ≡ laid (joined (removedAt i (packed a m))) (m .arena)
+      bytes-out e = removed (packed a m) (m .arena) (bytes-first a m s) i from to n used moves (e ∙ sym (starts a m s i (omega arith))) (next ∙ sym (starts-next a m s i h))
+
+      -- away from behind message i, and bytes are pasted behind it
+      pub bytes-more : (b : List ℕ) {out : List ℕ} → to ≡ from + length b → to ≤ length (m .arena)
+          → out ≡ pasted from b moved → out ≡ laid (joined (set (packed a m) i (messageAt m i .message .bytes ++ b))) (m .arena)
+      bytes-more b f g pastes =
+          let own = getD (packed a m) i [] in
+          let at : from ≡ start i (packed a m) + length own = next ∙ sym (starts-next a m s i h) ∙ start-next (packed a m) i (packed-within h) in
+          changed (packed a m) (m .arena) (bytes-first a m s) i from to n used moves (length own) b from (packed-within h) (omega arith) at (next ∙ sym (starts-next a m s i h)) f g pastes
+          ∙ rw (take-length own, packed-at h) refl
+
+      -- to where another message i ends, whose bytes are pasted over it
+      pub bytes-anew : (b : List ℕ) (at : ℕ) {out : List ℕ} → at ≡ sizeAll (take i (m .places)) → to ≡ at + length b → to ≤ length (m .arena)
+          → out ≡ pasted at b moved → out ≡ laid (joined (set (packed a m) i b)) (m .arena)
+      bytes-anew b at e f g pastes =
+          replaced (packed a m) (m .arena) (bytes-first a m s) i from to n used moves b at (packed-within h) (e ∙ sym (starts a m s i (omega arith))) (next ∙ sym (starts-next a m s i h)) f g pastes
