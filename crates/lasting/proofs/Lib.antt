@@ -1,0 +1,6 @@
+pub mod Growing
+pub mod Weighing
+pub mod Cases
+pub mod Single
+pub mod Lasting
+pub mod Telling
