@@ -1,24 +1,22 @@
 -- What a fragment leaves its channel holding is good. The weight lies in the bytes behind a whole number of bytes.
 use Prim.Native.Nat.{ℕ, zero, suc, _+_, _/_, _%_, _^_, _≤_, _<_}
-use mathlib.Core.Path.{_≡_, refl, ap, _∙_}
+use mathlib.Core.Path.{_≡_, refl, _∙_}
 use mathlib.Core.Bool.{Bool, true, false, cond}
 use mathlib.Core.List.{List, [], _++_}
 use native.Mathlib.Nat.{zero-div, mod-lt, div-eq-of-lt}
 use native.Mathlib.Omega.{arith}
-use lib.Dec.{eqb}
 use lib.ListN.{length, getD, take, length-append, List·getD-eq-default}
 use lib.Pow.{pow-pos}
 use lib.Seq.{length-take-le, getD-append-add, getD-at}
 use mir.Syntax.{w32}
 use mir.ValLaws.{ofZ-fits}
-use borrow.Author.Tests.{eq-eqb, not-true}
+use borrow.Author.Tests.{not-true}
 use Rattle.types.specs.declared.PartialSequenceKind.{PartialSequenceKind}
 use Rattle.types.specs.declared.RawBunchHeader.{RawBunchHeader}
 use Rattle.tables.specs.Tables.{Found, none, found}
 use Rattle.words.proofs.Back.{InRange}
 use Rattle.places.specs.Bytes.{bytesOf, payloadBytes}
 use Rattle.places.proofs.Payloads.{whole-bytes, with-rest, length-payload}
-use Rattle.judging.specs.declared.Fate.{Fate}
 use Rattle.judging.specs.Held.{Held, Fragment}
 use Rattle.judging.specs.Fates.{sequenceWord, overlaps, fate}
 use Rattle.judging.specs.Headers.{flagged, erring, afterTest}

@@ -11,7 +11,7 @@ use Rattle.places.specs.Bytes.{bytesOf}
 use Rattle.judging.specs.Held.{Held, Fragment}
 use Rattle.judging.specs.Messages.{heldAfter, bitsHeld}
 use Rattle.held.specs.declared.Accumulator.{Accumulator}
-use Rattle.held.specs.Memory.{Memory, State, stateOf, total}
+use Rattle.held.specs.Memory.{Memory, State, total}
 use Rattle.held.specs.Sound.{fit, sound}
 use Rattle.held.specs.State.{Good, Kept}
 use Rattle.held.specs.Steps.{Act, adding, taking, retiring, holding, local, after}

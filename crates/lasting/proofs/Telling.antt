@@ -1,41 +1,32 @@
 -- What a call's answer tells of the memory: a refusal, that nothing changed; a judgement, the ledger; and no call concerns another channel.
-use Prim.Native.Nat.{ℕ, _+_, _≤_}
+use Prim.Native.Nat.{ℕ, _+_}
 use mathlib.Core.Path.{_≡_, refl, ap, _∙_}
 use mathlib.Core.Bool.{Bool, true, false}
 use mathlib.Core.List.{List}
-use native.Mathlib.Omega.{arith}
-use lib.ListN.{length}
 use Rattle.window.specs.Refusals.{Refusal}
 use Rattle.tables.specs.Columns.{ascending}
-use Rattle.tables.specs.Tables.{Found, get, channels}
+use Rattle.tables.specs.Tables.{Found, none, get, channels}
 use Rattle.words.proofs.Back.{InRange}
-use Rattle.places.specs.Bytes.{bytesOf}
 use Rattle.judging.specs.declared.PartialBunchResult.{PartialBunchResult}
 use Rattle.judging.specs.declared.PartialDiscardCause.{PartialDiscardCause}
+use Rattle.judging.specs.declared.Fate.{Fate}
 use Rattle.judging.specs.Held.{Held, Fragment}
-use Rattle.judging.specs.Messages.{bitsHeld}
+use Rattle.judging.specs.Messages.{heldAfter, bitsHeld}
 use Rattle.judging.specs.Results.{result}
-use Rattle.judging.specs.Ledger.{Unreported}
-use Rattle.judging.proofs.Judged.{unreported-flagged}
-use Rattle.judging.proofs.Ledger.{ledger}
+use Rattle.judging.proofs.Ledger.{ledger, unreported}
 use Rattle.held.specs.declared.Accumulator.{Accumulator}
 use Rattle.held.specs.Memory.{Memory, State}
 use Rattle.held.specs.Sound.{sound}
-use Rattle.held.specs.Steps.{Act, adding, Answer, refused, judged, Told, Local, Limits, full, over, local, after}
+use Rattle.held.specs.Steps.{Act, adding, refused, judged, Told, Local, Limits, full, over, local, after}
 use Rattle.held.specs.Calls.{unsound, limitsOf, heldBy, Reply, called}
 use Rattle.held.proofs.Soundness.{stands}
 use Rattle.held.proofs.Holding.{kept, same-memory, same-counts}
+use Rattle.lasting.specs.Ledger.{Exception}
+use Rattle.lasting.proofs.Excepting.{excepted, exception-falls}
 use Rattle.lasting.proofs.Weighing.{met}
-use Rattle.lasting.proofs.Cases.{judges, local-case}
+use Rattle.lasting.proofs.Cases.{local-case}
 use Rattle.lasting.proofs.Single.{holding-same, get-holding, get-other}
 use Rattle.lasting.proofs.Lasting.{Entered, holds-next}
-
--- "one exception: a valid non-initial final of zero bits whose header entered with the error flag"
-pub record Exception (f : Fragment) : Type 0 where
-  pub continues : f .header .«b_partial_initial» ≡ false
-  pub final : f .header .«b_partial_final» ≡ true
-  pub empty : f .bits ≡ 0
-  pub flagged : f .header .«has_partial_error» ≡ true
 
 -- ## A step
 
@@ -51,25 +42,11 @@ module _ (l : Limits) (s : State) (c : ℕ) (output : List ℕ) where
       let same = local-case (λ (x : Local). x .answer ≡ refused e → (x .held ≡ get c s) × (x .output ≡ output)) output l s c act (λ r z. (refl, refl)) (λ z. ((cc), (cc))) (λ h g z. ((cc), (cc))) (λ f g h z. ((cc), (cc))) q in
       (rw (same .0) (holding-same c s a), same .1)
 
-  excepted : (f : Fragment) → Unreported (met l s c f) f → Exception f
-  excepted f u =
-      let flags = unreported-flagged (full l s c) (over l s c (adding f)) (get c s) f u in
-      record { continues = u .continues; final = flags .0; empty = u .empty; flagged = flags .1 }
-
-  ledger-step : (f : Fragment) {r : PartialBunchResult} {ds : List (Told × PartialDiscardCause)} → (Exception f → ⊥) → local l s c (adding f) output .answer ≡ judged r ds
-      → bitsHeld (get c s) + f .bits ≡ bitsHeld (get c (after l s c (adding f) output)) + r .«discarded_bits»
-  unfolding after
-  ledger-step f {r} {ds} reported q =
-      rw (get-holding c (local l s c (adding f) output .held) s)
-      (local-case (λ (x : Local). x .answer ≡ judged r ds → bitsHeld (get c s) + f .bits ≡ bitsHeld (x .held) + r .«discarded_bits») output l s c (adding f)
-      (λ e z. cc) (λ z. cc) (λ h g z. cc) balances q)
-    where
-      balances : (g : Fragment) → adding f ≡ adding g → bytesOf (g .bits) ≤ length (g .payload) → judges l s c g output .answer ≡ judged r ds
-          → bitsHeld (get c s) + f .bits ≡ bitsHeld (judges l s c g output .held) + r .«discarded_bits»
-      balances g e h z =
-          let same : f ≡ g = cc in
-          let says : result (met l s c g) (get c s) g ≡ r = cc in
-          rw (same, ← says) (ledger (get c s) g (met l s c g) (λ u. reported (rw same (excepted g u))))
+  judged-step : (f : Fragment) {r : PartialBunchResult} {ds : List (Told × PartialDiscardCause)} → local l s c (adding f) output .answer ≡ judged r ds
+      → (local l s c (adding f) output .held ≡ heldAfter (met l s c f) (get c s) f) × (result (met l s c f) (get c s) f ≡ r)
+  judged-step f {r} {ds} =
+      local-case (λ (x : Local). x .answer ≡ judged r ds → (x .held ≡ heldAfter (met l s c f) (get c s) f) × (result (met l s c f) (get c s) f ≡ r)) output l s c (adding f)
+      (λ e z. ((cc), (cc))) (λ z. ((cc), (cc))) (λ h g z. ((cc), (cc))) (λ g e h z. let same : f ≡ g = cc in rw same (refl, (cc)))
 
 -- ## A call
 
@@ -93,19 +70,42 @@ module _ (a : Accumulator) (m : Memory) (c : ℕ) (act : Act) (output : List ℕ
   pub others-held : sound a m ≡ true → Entered act → (d : ℕ) → (d ≡ c → ⊥) → get d (heldBy (x .accumulator) (x .memory)) ≡ get d (heldBy a m)
   others-held s e d n = ap (get d) (holds-next a m c act output s e) ∙ others-stay (limitsOf a) (heldBy a m) c output act d n
 
--- "In each add that isn't refused by a number above, bits held before + payload = held after + discarded, with one exception"
-pub ledger-held : (a : Accumulator) (m : Memory) (c : ℕ) (f : Fragment) (output : List ℕ) {r : PartialBunchResult} {ds : List (Told × PartialDiscardCause)}
-    → let x = called a m c (adding f) output in
-    InRange (f .header) → (Exception f → ⊥) → x .answer ≡ judged r ds
-    → bitsHeld (get c (heldBy a m)) + f .bits ≡ bitsHeld (get c (heldBy (x .accumulator) (x .memory))) + r .«discarded_bits»
-unfolding called
-ledger-held a m c f output {r} {ds} entered reported q = go (sound a m) refl
-  where
-    go : (b : Bool) → sound a m ≡ b
-        → bitsHeld (get c (heldBy a m)) + f .bits ≡ bitsHeld (get c (heldBy (called a m c (adding f) output .accumulator) (called a m c (adding f) output .memory))) + r .«discarded_bits»
-    go true s =
-        rw (holds-next a m c (adding f) output s entered)
-        (ledger-step (limitsOf a) (heldBy a m) c output f reported (rw s at q))
-    go false s =
-        let z : refused unsound ≡ judged r ds = rw s at q in
-        cc
+-- ## An add that is not refused
+
+module _ (a : Accumulator) (m : Memory) (c : ℕ) (f : Fragment) (output : List ℕ) (in-range : InRange (f .header))
+    {r : PartialBunchResult} {ds : List (Told × PartialDiscardCause)} (answers : called a m c (adding f) output .answer ≡ judged r ds) where
+  abbrev before : Found Held
+  before = get c (heldBy a m)
+
+  abbrev afterwards : Found Held
+  afterwards = let x = called a m c (adding f) output in get c (heldBy (x .accumulator) (x .memory))
+
+  abbrev fated : Fate
+  fated = met (limitsOf a) (heldBy a m) c f
+
+  -- what the channel holds, and the answer, are those of the fragment's fate
+  pub judged-held : (afterwards ≡ heldAfter fated before f) × (result fated before f ≡ r)
+  unfolding called after
+  judged-held = go (sound a m) refl
+    where
+      go : (b : Bool) → sound a m ≡ b → (afterwards ≡ heldAfter fated before f) × (result fated before f ≡ r)
+      go true s =
+          let step = judged-step (limitsOf a) (heldBy a m) c output f (rw s at answers) in
+          (ap (get c) (holds-next a m c (adding f) output s in-range) ∙ get-holding c (local (limitsOf a) (heldBy a m) c (adding f) output .held) (heldBy a m) ∙ step .0, step .1)
+      go false s =
+          let z : refused unsound ≡ judged r ds = rw s at answers in
+          ((cc), (cc))
+
+  -- "bits held before + payload = held after + discarded, with one exception"
+  pub ledger-held : (Exception before f → ⊥) → bitsHeld before + f .bits ≡ bitsHeld afterwards + r .«discarded_bits»
+  ledger-held reported =
+      let j = judged-held in
+      rw (j .0, ← j .1) (ledger before f fated (λ u. reported (excepted (full (limitsOf a) (heldBy a m) c) (over (limitsOf a) (heldBy a m) c (adding f)) before f u)))
+
+  -- the exception "retires the message and reports none of its bits"
+  pub exception-held : Exception before f → (afterwards ≡ none) × (r .«discarded_bits» ≡ 0)
+  unfolding heldAfter
+  exception-held x =
+      let j = judged-held in
+      let u = exception-falls (full (limitsOf a) (heldBy a m) c) (over (limitsOf a) (heldBy a m) c (adding f)) before f x in
+      (j .0 ∙ rw (u .falls) refl, rw (← j .1) (unreported before f fated u .1))

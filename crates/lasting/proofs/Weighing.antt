@@ -1,8 +1,8 @@
 -- What a fragment leaves its channel holding is within the limits: a new message finds a place, and bits are appended only below the
 -- buffered limit.
 use Prim.Native.Nat.{ℕ, _+_, _≤_, _<_}
-use mathlib.Core.Path.{_≡_, refl, sym, _∙_}
-use mathlib.Core.Bool.{Bool, true, false, not, _&&_, _||_, cond}
+use mathlib.Core.Path.{_≡_, refl}
+use mathlib.Core.Bool.{Bool, true, false, not, _||_, cond}
 use native.Mathlib.Omega.{arith}
 use lib.Dec.{eqb, leb}
 use lib.ListN.{length}
@@ -13,7 +13,7 @@ use Rattle.tables.specs.Columns.{ascending}
 use Rattle.tables.specs.Tables.{Found, none, found, get, without, channels}
 use Rattle.judging.specs.declared.Fate.{Fate}
 use Rattle.judging.specs.Held.{Held, Fragment}
-use Rattle.judging.specs.Fates.{follows, overlaps, ending, weighed, admitted, continued, fate}
+use Rattle.judging.specs.Fates.{follows, overlaps, weighed, admitted, continued, fate}
 use Rattle.judging.specs.Headers.{afterTest}
 use Rattle.judging.specs.Messages.{joinedBy, heldAfter, bitsHeld}
 use Rattle.judging.specs.Effects.{effectOf, effectOn}

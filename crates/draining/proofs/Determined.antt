@@ -1,0 +1,72 @@
+-- The calls' promises in the paper's terms determine the answer and the lent memory: no two answers of the code say the same.
+use Prim.Native.Nat.{ℕ}
+use mathlib.Core.Path.{_≡_, refl, ap, sym, _∙_}
+use mathlib.Core.Bool.{cond}
+use mathlib.Core.List.{List}
+use lib.Dec.{eqb}
+use lib.ListN.{getD}
+use Rattle.window.specs.Refusals.{Refusal}
+use Rattle.window.specs.Parse.{Result, value, refusal}
+use Rattle.held.specs.declared.Accumulator.{Accumulator}
+use Rattle.held.specs.Steps.{payloadTooLong, payloadShort, outputShort}
+use Rattle.held.specs.Calls.{unsound}
+use Rattle.draining.specs.declared.BunchError.{BunchError}
+use Rattle.draining.specs.declared.Drain.{Drain}
+use Rattle.draining.specs.declared.Emptied.{Emptied}
+use Rattle.draining.specs.declared.Opened.{Opened}
+use Rattle.draining.specs.Opening.{unfit, ofOpened}
+use Rattle.draining.specs.Draining.{listFull, bunchPaper, Reply, drainAnswer, ofEmptied}
+
+-- a refusal by its number and what it returns
+unbunch : Refusal → BunchError
+unbunch r =
+    let n = getD (r .returns) 0 0 in
+    cond (eqb (r .number) 9) BunchError.Unfit
+    (cond (eqb (r .number) 10) BunchError.Unsound
+    (cond (eqb (r .number) 11) (BunchError.PayloadTooLong n)
+    (cond (eqb (r .number) 12) (BunchError.PayloadShort n) (cond (eqb (r .number) 13) (BunchError.OutputShort n) (BunchError.ListFull n)))))
+
+unbunch-paper : (e : BunchError) → unbunch (bunchPaper e) ≡ e
+unfolding unbunch unfit unsound payloadTooLong payloadShort outputShort listFull
+unbunch-paper BunchError.Unfit = refl
+unbunch-paper BunchError.Unsound = refl
+unbunch-paper (BunchError.PayloadTooLong n) = refl
+unbunch-paper (BunchError.PayloadShort n) = refl
+unbunch-paper (BunchError.OutputShort n) = refl
+unbunch-paper (BunchError.ListFull n) = refl
+
+-- an answer, read back
+abbrev back : Result ℕ → Drain
+back (value n) = Drain.Messages n
+back (refusal r) = Drain.Refused (unbunch r)
+
+drain-back : (d : Drain) → back (drainAnswer d) ≡ d
+drain-back (Drain.Messages n) = refl
+drain-back (Drain.Refused e) = ap Drain.Refused (unbunch-paper e)
+
+abbrev again : Reply → Emptied
+again x = record { answer = back (x .answer); accumulator = x .accumulator }
+
+emptied-again : (r : Emptied) (output : List ℕ) (list : List (List ℕ)) → again (ofEmptied r output list) ≡ r
+emptied-again r output list = rw (drain-back (r .answer))
+
+module _ (r s : Emptied) (o p : List ℕ) (l k : List (List ℕ)) (e : ofEmptied r o l ≡ ofEmptied s p k) where
+  pub drain-determined : r ≡ s
+  drain-determined = sym (emptied-again r o l) ∙ ap again e ∙ emptied-again s p k
+
+  pub output-determined : o ≡ p
+  output-determined = ap (λ (x : Reply). x .output) e
+
+  pub list-determined : l ≡ k
+  list-determined = ap (λ (x : Reply). x .list) e
+
+abbrev reopened : Result Accumulator → Opened
+reopened (value a) = Opened.Value a
+reopened (refusal e) = Opened.Refused
+
+opened-again : (o : Opened) → reopened (ofOpened o) ≡ o
+opened-again (Opened.Value a) = refl
+opened-again Opened.Refused = refl
+
+pub opened-determined : (o q : Opened) → ofOpened o ≡ ofOpened q → o ≡ q
+opened-determined o q e = sym (opened-again o) ∙ ap reopened e ∙ opened-again q

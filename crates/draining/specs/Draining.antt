@@ -1,0 +1,75 @@
+-- Draining: every message leaves the accumulator, and those that are not finished are listed.
+use Prim.Native.Nat.{ℕ}
+use mathlib.Core.Bool.{cond}
+use mathlib.Core.List.{List, [], _∷_, map}
+use lib.Dec.{ltb}
+use lib.ListN.{length}
+use Rattle.window.specs.Refusals.{Refusal}
+use Rattle.window.specs.Parse.{Result, value, refusal}
+use Rattle.places.specs.Bytes.{pasted}
+use Rattle.judging.specs.Held.{Held}
+use Rattle.held.specs.declared.Accumulator.{Accumulator}
+use Rattle.held.specs.Memory.{Memory, State, bytesAll}
+use Rattle.held.specs.Sound.{sound}
+use Rattle.held.specs.Steps.{payloadTooLong, payloadShort, outputShort}
+use Rattle.held.specs.Calls.{unsound, heldBy, counting}
+use Rattle.draining.specs.declared.BunchError.{BunchError}
+use Rattle.draining.specs.declared.Drain.{Drain}
+use Rattle.draining.specs.declared.Emptied.{Emptied}
+use Rattle.draining.specs.Opening.{unfit}
+
+-- "14+ record list full: … draining, places needed"
+unfoldable pub listFull : ℕ → Refusal
+listFull places = record { number = 14; returns = places ∷ [] }
+
+-- the paper's number and values for each case
+abbrev pub bunchPaper : BunchError → Refusal
+bunchPaper BunchError.Unfit = unfit
+bunchPaper BunchError.Unsound = unsound
+bunchPaper (BunchError.PayloadTooLong count) = payloadTooLong count
+bunchPaper (BunchError.PayloadShort count) = payloadShort count
+bunchPaper (BunchError.OutputShort bytes) = outputShort bytes
+bunchPaper (BunchError.ListFull places) = listFull places
+
+-- "unfinished messages by ascending channel (the Rust's order is arbitrary) and drops finished ones": a state is by ascending channel
+unfoldable pub unfinished : State → State
+unfinished [] = []
+unfinished (e ∷ s) = cond (e .1 .finished) (unfinished s) (e ∷ unfinished s)
+
+-- a message in the list: its channel, how many bits, and its header's words
+abbrev pub listedOf : ℕ × Held → List ℕ
+listedOf e = e .0 ∷ e .1 .message .bits ∷ e .1 .message .header
+
+abbrev pub listed : State → List (List ℕ)
+listed s = map listedOf s
+
+-- how many messages are listed or a refusal, the accumulator, the lent output and the lent list; the lent memory stays as it is
+pub record Reply : Type 0 where
+  pub answer : Result ℕ
+  pub accumulator : Accumulator
+  pub output : List ℕ
+  pub list : List (List ℕ)
+
+-- "a refused … drain has written nothing"
+abbrev pub refuses : Refusal → Accumulator → List ℕ → List (List ℕ) → Reply
+refuses e a output list = record { answer = refusal e; accumulator = a; output = output; list = list }
+
+-- bytes to the front of the output, one message's after the other, and the messages to the front of the list
+abbrev pub lists : State → Accumulator → List ℕ → List (List ℕ) → Reply
+lists u a output list = record { answer = value (length u); accumulator = counting a []; output = pasted 0 (bytesAll u) output; list = pasted 0 (listed u) list }
+
+-- "draining tests 10, 13, 14"
+unfoldable pub drained : Accumulator → Memory → List ℕ → List (List ℕ) → Reply
+drained a m output list =
+    let u = unfinished (heldBy a m) in
+    cond (sound a m)
+    (cond (ltb (length output) (length (bytesAll u))) (refuses (outputShort (length (bytesAll u))) a output list)
+    (cond (ltb (length list) (length u)) (refuses (listFull (length u)) a output list) (lists u a output list)))
+    (refuses unsound a output list)
+
+abbrev pub drainAnswer : Drain → Result ℕ
+drainAnswer (Drain.Messages n) = value n
+drainAnswer (Drain.Refused e) = refusal (bunchPaper e)
+
+abbrev pub ofEmptied : Emptied → List ℕ → List (List ℕ) → Reply
+ofEmptied r output list = record { answer = drainAnswer (r .answer); accumulator = r .accumulator; output = output; list = list }

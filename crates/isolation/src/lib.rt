@@ -1,0 +1,1 @@
+// Demand 3 over the accumulator's calls: definitions and proofs alone.
