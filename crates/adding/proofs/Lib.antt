@@ -1,0 +1,4 @@
+pub mod Places
+pub mod Growing
+pub mod Settles
+pub mod Judging

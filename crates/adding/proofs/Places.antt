@@ -1,0 +1,49 @@
+-- The words that the code writes are those of the message that it means.
+use Prim.Native.Nat.{ℕ, zero, suc, _+_, _<_}
+use mathlib.Core.Path.{_≡_, refl, sym, ap, _∙_}
+use mathlib.Core.Bool.{Bool, true, false}
+use mathlib.Core.List.{List, [], _∷_, map}
+use native.Mathlib.Nat.{not-suc-le-zero, le-of-suc-le-suc}
+use native.Mathlib.Omega.{arith}
+use lib.ListN.{length, getD, set, take, drop, List·getD-map}
+use lib.Seq.{getD-take}
+use Rattle.types.specs.declared.RawBunchHeader.{RawBunchHeader}
+use Rattle.tables.specs.Tables.{found, values}
+use Rattle.judging.specs.Held.{Held, Fragment}
+use Rattle.judging.specs.Fates.{sequenceWord}
+use Rattle.judging.specs.Messages.{fresh, base, grown}
+use Rattle.held.specs.declared.Accumulator.{Accumulator}
+use Rattle.held.specs.Memory.{Memory, placeOf, heldAt}
+use Rattle.held.specs.State.{Stands}
+use Rattle.held.specs.Calls.{heldBy}
+use Rattle.held.proofs.Holding.{messageAt, places-are, message-at}
+use Rattle.adding.specs.Adding.{startedWords, joinedWords}
+
+pub three-set : (p : List ℕ) (x y z : ℕ) → length p ≡ 24 → set (set (set p 0 x) 1 y) 3 z ≡ x ∷ y ∷ getD p 2 0 ∷ z ∷ drop 4 p
+three-set [] x y z h = absurd (omega arith)
+three-set (a ∷ []) x y z h = absurd (omega arith)
+three-set (a ∷ b ∷ []) x y z h = absurd (omega arith)
+three-set (a ∷ b ∷ c ∷ []) x y z h = absurd (omega arith)
+three-set (a ∷ b ∷ c ∷ d ∷ p) x y z h = refl
+
+pub started-is : (h : RawBunchHeader) (finished : Bool) (f : Fragment) → placeOf (grown finished (fresh h) f) ≡ startedWords h (sequenceWord h) (f .bits) finished
+unfolding placeOf
+started-is h finished f = let e : 0 + f .bits ≡ f .bits = omega arith in rw e refl
+
+pub joined-is : (p bytes : List ℕ) (h : RawBunchHeader) (finished : Bool) (f : Fragment) → placeOf (heldAt p bytes) ≡ p
+    → placeOf (grown finished (base (found (heldAt p bytes)) h) f) ≡ joinedWords p (sequenceWord h) (f .bits) finished
+unfolding placeOf heldAt
+joined-is p bytes h finished f e = rw (ap (λ (t : List ℕ). getD t 2 0) e) refl
+
+any-default : {A : Type 0} (l : List A) (i : ℕ) (d e : A) → i < length l → getD l i d ≡ getD l i e
+any-default [] i d e h = absurd (not-suc-le-zero h)
+any-default (x ∷ l) zero d e h = refl
+any-default (x ∷ l) (suc i) d e h = any-default l i d e (le-of-suc-le-suc h)
+
+-- a live place says its message
+pub place-is : (a : Accumulator) (m : Memory) → Stands a m → (i : ℕ) → i < a .active → placeOf (messageAt m i) ≡ getD (m .places) i []
+place-is a m s i h =
+    let d = heldAt [] [] in
+    sym (List·getD-map placeOf (values (heldBy a m)) i d ∙ ap placeOf (message-at a m s d i h))
+    ∙ rw (places-are a m s) (getD-take (a .active) (m .places) i (placeOf d) h)
+    ∙ any-default (m .places) i (placeOf d) [] (omega (arith, s))

@@ -1,0 +1,235 @@
+// A channel's place by value, and the memory after a fragment's effect.
+ghost use mathlib.Core.Path.{_≡_};
+ghost use mathlib.Core.Bool.{cond};
+ghost use mathlib.Core.List.{List};
+ghost use Prim.Native.Nat.{ℕ, _+_, _≤_, _<_, _^_};
+ghost use lib.Dec.{eqb};
+ghost use lib.ListN.{getD, drop};
+ghost use Rattle.tables.specs.Tables.{found, none};
+ghost use Rattle.places.specs.Bytes.{bytesOf};
+ghost use Rattle.judging.specs.Fates.{sequenceWord, fate};
+ghost use Rattle.judging.specs.Standings.{heldOf, bitsOf};
+ghost use Rattle.judging.specs.Effects.{effectOf};
+ghost use Rattle.held.specs.Memory.{memory, heldAt};
+ghost use Rattle.held.specs.Steps.{holding};
+ghost use Rattle.held.specs.Calls.{heldBy};
+ghost use Rattle.settling.specs.Settling.{Lays};
+ghost use Rattle.adding.specs.Adding.{startedWords, joinedWords, wordsAfter, heldIn, leftBy, Holds, Lacks};
+use bits::inner::signed;
+use held::Accumulator;
+use held::inner::bytes_of;
+use judging::Effect;
+use judging::Fate;
+use judging::Standing;
+use judging::effects::effect;
+use judging::fates::fate;
+use places::Place;
+use settling::inner::Settled;
+use settling::inner::change_message;
+use settling::inner::drop_message;
+use settling::inner::start_message;
+use types::RawBunchHeader;
+use words::of_header;
+
+pub fn standing_of(p: Place) -> Standing
+    requires { ⌜ getD p 3 0 < 2 ^ 32 ⌝ }
+    ensures { λ r. ⌜ ((bytes : List ℕ) → heldOf r (drop 4 p) bytes ≡ found (heldAt p bytes)) × (bitsOf r ≡ getD p 0 0) ⌝ }
+{
+    Standing::Message {
+        sequence: p[3] as u32,
+        reliable: p[2] == 1,
+        finished: p[1] == 1,
+        bits: p[0],
+    }
+}
+
+pub fn sequence_of(h: RawBunchHeader) -> u32
+    ensures { λ r. ⌜ (r ≡ sequenceWord h) × (r < 2 ^ 32) ⌝ }
+{
+    signed::to_word(h.ch_sequence)
+}
+
+// The place of a message that starts with the header h.
+fn started_place(h: RawBunchHeader, sequence: u32, bits: u64, finished: bool) -> Place
+    ensures { λ r. ⌜ r ≡ startedWords h sequence bits finished ⌝ }
+{
+    let w = of_header(h);
+    [
+        bits,
+        finished as u64,
+        h.b_reliable as u64,
+        sequence as u64,
+        w[0],
+        w[1],
+        w[2],
+        w[3],
+        w[4],
+        w[5],
+        w[6],
+        w[7],
+        w[8],
+        w[9],
+        w[10],
+        w[11],
+        w[12],
+        w[13],
+        w[14],
+        w[15],
+        w[16],
+        w[17],
+        w[18],
+        w[19],
+    ]
+}
+
+// The place of a message that a fragment joins.
+fn joined_place(p: Place, sequence: u32, bits: u64, finished: bool) -> Place
+    requires { ⌜ getD p 0 0 + bits < 2 ^ 64 ⌝ }
+    ensures { λ r. ⌜ r ≡ joinedWords p sequence bits finished ⌝ }
+{
+    let mut q = p;
+    q[0] = p[0] + bits;
+    q[1] = finished as u64;
+    q[3] = sequence as u64;
+    q
+}
+
+fn place_after(
+    anew: bool,
+    finished: bool,
+    p: Place,
+    h: RawBunchHeader,
+    sequence: u32,
+    bits: u64,
+) -> Place
+    requires { ⌜ getD p 0 0 + bits < 2 ^ 64 ⌝ }
+    ensures { λ r. ⌜ r ≡ wordsAfter anew finished p h sequence bits ⌝ }
+{
+    if anew {
+        return started_place(h, sequence, bits, finished);
+    }
+    joined_place(p, sequence, bits, finished)
+}
+
+fn bytes_if(shown: bool, n: usize) -> usize
+    ensures { λ r. ⌜ r ≡ cond shown n 0 ⌝ }
+{
+    if shown { n } else { 0 }
+}
+
+fn bits_if(shown: bool, n: u64) -> u64
+    ensures { λ r. ⌜ r ≡ cond shown n 0 ⌝ }
+{
+    if shown { n } else { 0 }
+}
+
+// A fate with its effect, and how much is shown: bytes of the held message, bits of the payload.
+pub struct Weighed {
+    pub fate: Fate,
+    pub effect: Effect,
+    pub held: usize,
+    pub payload: u64,
+}
+
+pub fn weigh(
+    full: bool,
+    over: bool,
+    standing: Standing,
+    held: u64,
+    header: RawBunchHeader,
+    bits: u64,
+) -> Weighed
+    requires { ⌜ held < 2 ^ 32 ⌝ }
+    ensures { λ r. ⌜ ((words bytes : List ℕ) → r .fate ≡ fate full over (heldOf standing words bytes) header bits) × (r .effect ≡ effectOf (r .fate) (header .«b_partial_initial») (eqb bits 0)) × (r .held ≡ cond (r .effect .«shows_held») (bytesOf held) 0) × (r .payload ≡ cond (r .effect .«shows_payload») bits 0) ⌝ }
+{
+    let met = fate(full, over, standing, header, bits);
+    let e = effect(met, header.b_partial_initial, bits == 0);
+    Weighed {
+        fate: met,
+        effect: e,
+        held: bytes_if(e.shows_held, bytes_of(held)),
+        payload: bits_if(e.shows_payload, bits),
+    }
+}
+
+// The channel's message stands at place i; h is the fragment's header after the sequence test, and `sequence` its word.
+pub fn settle_held(
+    a: Accumulator,
+    used: usize,
+    ch_index: u32,
+    i: usize,
+    start: usize,
+    e: Effect,
+    h: RawBunchHeader,
+    sequence: u32,
+    payload: &[u8],
+    bits: u64,
+    channels: &mut [u32],
+    places: &mut [Place],
+    arena: &mut [u8],
+) -> Settled
+    requires { ⌜ Holds a (memory (now channels) (now places) (now arena)) used «ch_index» i start e h sequence bits (now payload) ⌝ }
+    ensures { λ r. ⌜ Lays a (memory (now (channels .entry)) (now (places .entry)) (now (arena .entry))) (holding «ch_index» (leftBy e (found (heldIn i start (memory (now (channels .entry)) (now (places .entry)) (now (arena .entry))))) h bits (now (payload .entry))) (heldBy a (memory (now (channels .entry)) (now (places .entry)) (now (arena .entry))))) r (memory (now (channels .exit)) (now (places .exit)) (now (arena .exit))) ⌝ }
+{
+    if e.stays {
+        let p = places[i];
+        let next = place_after(e.anew, e.finished, p, h, sequence, bits);
+        let size = bytes_of(p[0]);
+        let keep = bytes_if(!e.anew, size);
+        return change_message(
+            a,
+            used,
+            ch_index,
+            i,
+            start,
+            keep,
+            next,
+            payload,
+            bits,
+            channels,
+            places,
+            arena,
+        );
+    }
+    drop_message(a, used, ch_index, i, start, channels, places, arena)
+}
+
+// The channel holds nothing; its message would stand at place i.
+pub fn settle_free(
+    a: Accumulator,
+    used: usize,
+    ch_index: u32,
+    i: usize,
+    start: usize,
+    e: Effect,
+    h: RawBunchHeader,
+    sequence: u32,
+    payload: &[u8],
+    bits: u64,
+    channels: &mut [u32],
+    places: &mut [Place],
+    arena: &mut [u8],
+) -> Settled
+    requires { ⌜ Lacks a (memory (now channels) (now places) (now arena)) used «ch_index» i start e h sequence bits (now payload) ⌝ }
+    ensures { λ r. ⌜ Lays a (memory (now (channels .entry)) (now (places .entry)) (now (arena .entry))) (holding «ch_index» (leftBy e none h bits (now (payload .entry))) (heldBy a (memory (now (channels .entry)) (now (places .entry)) (now (arena .entry))))) r (memory (now (channels .exit)) (now (places .exit)) (now (arena .exit))) ⌝ }
+{
+    if e.stays {
+        let next = started_place(h, sequence, bits, e.finished);
+        return start_message(
+            a,
+            used,
+            ch_index,
+            i,
+            start,
+            next,
+            payload,
+            channels,
+            places,
+            arena,
+        );
+    }
+    Settled {
+        accumulator: a,
+        used,
+    }
+}

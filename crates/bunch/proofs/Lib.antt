@@ -1,0 +1,5 @@
+pub mod Handing
+pub mod Words
+pub mod Joining
+pub mod There
+pub mod Absent

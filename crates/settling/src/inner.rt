@@ -1,0 +1,129 @@
+// Each edit lays the state that it means, and answers its counts.
+ghost use mathlib.Core.Path.{_≡_};
+ghost use mathlib.Core.List.{_++_};
+ghost use Prim.Native.Nat.{_+_, _≤_};
+ghost use lib.ListN.{length};
+ghost use Rattle.tables.specs.Tables.{put, without};
+ghost use Rattle.places.specs.Bytes.{pasted, part, bytesOf, payloadBytes};
+ghost use Rattle.judging.specs.Held.{Held};
+ghost use Rattle.held.specs.Memory.{memory, bitsOf};
+ghost use Rattle.held.specs.Calls.{heldBy};
+ghost use Rattle.settling.specs.Settling.{Occupied, Changes, Starts, Is, settled, Lays};
+use held::Accumulator;
+use held::inner::bytes_of;
+use places::Place;
+use places::inner::copy_bytes;
+use places::inner::insert_place;
+use places::inner::move_bytes;
+use places::inner::put_payload;
+use places::inner::remove_place;
+use tables::inner;
+
+// What is held after an edit, and how many bytes of the arena are used.
+pub struct Settled {
+    pub accumulator: Accumulator,
+    pub used: usize,
+}
+
+fn counted(a: Accumulator, active: usize, total: u64, used: usize) -> Settled
+    ensures { λ r. ⌜ r ≡ settled a active total used ⌝ }
+{
+    let accumulator = Accumulator {
+        max_active: a.max_active,
+        max_buffered_bits: a.max_buffered_bits,
+        active,
+        total_buffered_bits: total,
+    };
+    Settled { accumulator, used }
+}
+
+// Some of the arena's bytes and then the payload's bits.
+pub fn show(arena: &[u8], from: usize, n: usize, payload: &[u8], bits: u64, output: &mut [u8])
+    requires { ⌜ (from + n ≤ length (now arena)) × (bytesOf bits ≤ length (now payload)) × (n + bytesOf bits ≤ length (now output)) ⌝ }
+    ensures { λ r. ⌜ now (output .exit) ≡ pasted 0 (part from n (now (arena .entry)) ++ payloadBytes bits (now (payload .entry))) (now (output .entry)) ⌝ }
+{
+    copy_bytes(arena, from, n, output, 0);
+    put_payload(payload, bits, output, n);
+}
+
+// The channel's message goes, and what stood behind it moves down.
+pub fn drop_message(
+    a: Accumulator,
+    used: usize,
+    ch_index: u32,
+    i: usize,
+    start: usize,
+    channels: &mut [u32],
+    places: &mut [Place],
+    arena: &mut [u8],
+) -> Settled
+    requires { ⌜ Occupied a (memory (now channels) (now places) (now arena)) used «ch_index» i start ⌝ }
+    ensures { λ r. ⌜ Lays a (memory (now (channels .entry)) (now (places .entry)) (now (arena .entry))) (without «ch_index» (heldBy a (memory (now (channels .entry)) (now (places .entry)) (now (arena .entry))))) r (memory (now (channels .exit)) (now (places .exit)) (now (arena .exit))) ⌝ }
+{
+    let p = places[i];
+    let bits = p[0];
+    let n = bytes_of(bits);
+    let next = start + n;
+    let active = a.active;
+    move_bytes(arena, next, start, used - next);
+    remove_place(places, active, i);
+    inner::remove(channels, active, i);
+    counted(a, active - 1, a.total_buffered_bits - bits, used - n)
+}
+
+// Of the message's bytes the first `keep` stay, and the payload's bits follow them; its place becomes p.
+pub fn change_message(
+    a: Accumulator,
+    used: usize,
+    ch_index: u32,
+    i: usize,
+    start: usize,
+    keep: usize,
+    p: Place,
+    payload: &[u8],
+    bits: u64,
+    channels: &[u32],
+    places: &mut [Place],
+    arena: &mut [u8],
+) -> Settled
+    requires { ⌜ Changes a (memory (now channels) (now places) (now arena)) used «ch_index» i start keep p bits (now payload) ⌝ }
+    ensures { λ r. ⌜ ((h : Held) → Is h p (part start keep (now (arena .entry)) ++ payloadBytes bits (now (payload .entry))) → Lays a (memory (now (channels .entry)) (now (places .entry)) (now (arena .entry))) (put «ch_index» h (heldBy a (memory (now (channels .entry)) (now (places .entry)) (now (arena .entry))))) r (memory (now (channels .entry)) (now (places .exit)) (now (arena .exit)))) ⌝ }
+{
+    let q = places[i];
+    let gone = q[0];
+    let size = bytes_of(gone);
+    let n = bytes_of(bits);
+    let next = start + size;
+    let at = start + keep;
+    move_bytes(arena, next, at + n, used - next);
+    put_payload(payload, bits, arena, at);
+    places[i] = p;
+    let total = a.total_buffered_bits - gone + p[0];
+    counted(a, a.active, total, used - size + (keep + n))
+}
+
+// A channel that holds nothing gets a message, whose bits are the payload's.
+pub fn start_message(
+    a: Accumulator,
+    used: usize,
+    ch_index: u32,
+    i: usize,
+    start: usize,
+    p: Place,
+    payload: &[u8],
+    channels: &mut [u32],
+    places: &mut [Place],
+    arena: &mut [u8],
+) -> Settled
+    requires { ⌜ Starts a (memory (now channels) (now places) (now arena)) used «ch_index» i start p (now payload) ⌝ }
+    ensures { λ r. ⌜ ((h : Held) → Is h p (payloadBytes (bitsOf p) (now (payload .entry))) → Lays a (memory (now (channels .entry)) (now (places .entry)) (now (arena .entry))) (put «ch_index» h (heldBy a (memory (now (channels .entry)) (now (places .entry)) (now (arena .entry))))) r (memory (now (channels .exit)) (now (places .exit)) (now (arena .exit)))) ⌝ }
+{
+    let bits = p[0];
+    let n = bytes_of(bits);
+    let active = a.active;
+    move_bytes(arena, start, start + n, used - start);
+    put_payload(payload, bits, arena, start);
+    insert_place(places, active, i, p);
+    inner::insert(channels, active, i, ch_index);
+    counted(a, active + 1, a.total_buffered_bits + bits, used + n)
+}
