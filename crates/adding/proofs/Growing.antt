@@ -1,6 +1,6 @@
 -- A payload's bits behind whole bytes make a good message.
 use Prim.Native.Nat.{ℕ, zero, suc, _+_, _/_, _%_, _^_, _≤_, _<_}
-use mathlib.Core.Path.{_≡_, sym, _∙_}
+use mathlib.Core.Path.{_≡_, _∙_}
 use mathlib.Core.Bool.{Bool, false}
 use mathlib.Core.List.{List, _++_}
 use native.Mathlib.Nat.{mod-lt, div-eq-of-lt, zero-div}

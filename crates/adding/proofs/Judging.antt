@@ -10,12 +10,12 @@ use borrow.Author.Tests.{eqb-true, ltb-false, leb-false, not-true}
 use Rattle.types.specs.declared.PartialSequenceKind.{PartialSequenceKind}
 use Rattle.types.specs.declared.RawBunchHeader.{RawBunchHeader}
 use Rattle.tables.specs.declared.Slot.{Slot}
-use Rattle.tables.specs.Tables.{Found, none, found, get, put, without, slotOf}
+use Rattle.tables.specs.Tables.{Found, none, found, put, without, slotOf}
 use Rattle.places.specs.Bytes.{bytesOf}
 use Rattle.judging.specs.declared.Effect.{Effect}
 use Rattle.judging.specs.declared.Fate.{Fate}
 use Rattle.judging.specs.Held.{Held, Fragment}
-use Rattle.judging.specs.Fates.{sequenceWord, follows, overlaps, ending, weighed, admitted, continued, fate}
+use Rattle.judging.specs.Fates.{sequenceWord, follows, overlaps, weighed, admitted, continued, fate}
 use Rattle.judging.specs.Messages.{joinedBy, base, fresh, grown}
 use Rattle.judging.specs.Effects.{effectOf, effectOn}
 use Rattle.judging.proofs.Meeting.{fate-case}
@@ -23,7 +23,7 @@ use Rattle.judging.proofs.Judged.{stays-unfinished}
 use Rattle.held.specs.declared.Accumulator.{Accumulator}
 use Rattle.held.specs.Memory.{Memory, bitsOf, State, heldAt, total}
 use Rattle.held.specs.State.{Good, Kept}
-use Rattle.held.specs.Steps.{Act, adding, full, isNone, over, reached}
+use Rattle.held.specs.Steps.{adding, full, over}
 use Rattle.held.specs.Steps as Steps
 use Rattle.held.specs.Calls.{heldBy, limitsOf}
 use Rattle.held.proofs.Keeping.{good-held, put-kept}

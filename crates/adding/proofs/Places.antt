@@ -1,15 +1,15 @@
 -- The words that the code writes are those of the message that it means.
 use Prim.Native.Nat.{ℕ, zero, suc, _+_, _<_}
 use mathlib.Core.Path.{_≡_, refl, sym, ap, _∙_}
-use mathlib.Core.Bool.{Bool, true, false}
-use mathlib.Core.List.{List, [], _∷_, map}
+use mathlib.Core.Bool.{Bool}
+use mathlib.Core.List.{List, [], _∷_}
 use native.Mathlib.Nat.{not-suc-le-zero, le-of-suc-le-suc}
 use native.Mathlib.Omega.{arith}
-use lib.ListN.{length, getD, set, take, drop, List·getD-map}
+use lib.ListN.{length, getD, set, drop, List·getD-map}
 use lib.Seq.{getD-take}
 use Rattle.types.specs.declared.RawBunchHeader.{RawBunchHeader}
 use Rattle.tables.specs.Tables.{found, values}
-use Rattle.judging.specs.Held.{Held, Fragment}
+use Rattle.judging.specs.Held.{Fragment}
 use Rattle.judging.specs.Fates.{sequenceWord}
 use Rattle.judging.specs.Messages.{fresh, base, grown}
 use Rattle.held.specs.declared.Accumulator.{Accumulator}

@@ -1,18 +1,17 @@
 -- A message that stays within the limits: its words and bytes are those that the code puts, and there is room for them.
-use Prim.Native.Nat.{ℕ, suc, _+_, _≤_, _<_}
+use Prim.Native.Nat.{ℕ, _+_, _≤_}
 use mathlib.Core.Path.{_≡_, refl, sym, ap, _∙_}
 use mathlib.Core.Bool.{Bool, true, false, not, cond}
 use mathlib.Core.List.{List, [], _++_}
 use native.Mathlib.Omega.{arith}
 use lib.ListN.{length, getD, length-append}
 use Rattle.types.specs.declared.RawBunchHeader.{RawBunchHeader}
-use Rattle.tables.specs.Tables.{Found, none, found, put, without}
+use Rattle.tables.specs.Tables.{none, found, put}
 use Rattle.places.specs.Bytes.{part, bytesOf, payloadBytes}
 use Rattle.places.proofs.Pastes.{length-part}
 use Rattle.places.proofs.Payloads.{length-payload}
 use Rattle.judging.specs.declared.Effect.{Effect}
 use Rattle.judging.specs.Held.{Held}
-use Rattle.judging.specs.Fates.{sequenceWord}
 use Rattle.judging.specs.Messages.{joinedBy, base, grown}
 use Rattle.held.specs.declared.Accumulator.{Accumulator}
 use Rattle.held.specs.Memory.{Memory, placeOf, bitsOf, sizeOf, heldAt}
@@ -23,7 +22,7 @@ use Rattle.held.proofs.Keeping.{total-put}
 use Rattle.held.proofs.Laying.{bytes-within}
 use Rattle.held.proofs.Holding.{same-memory, same-counts}
 use Rattle.held.proofs.Edits.{bytes-changed, live-inserted, bytes-inserted, without-same}
-use Rattle.settling.specs.Settling.{Vacant, Changes, Starts, Is, Lays}
+use Rattle.settling.specs.Settling.{Changes, Starts, Is, Lays}
 use Rattle.settling.proofs.Numbers.{numbers}
 use Rattle.adding.specs.Adding.{startedWords, wordsAfter, heldIn, stayedBy, Holds, Lacks}
 use Rattle.adding.proofs.Places.{started-is, joined-is, place-is}

@@ -10,7 +10,7 @@ use Rattle.tables.specs.Tables.{Found, none, found, put}
 use Rattle.words.specs.Words.{headerWords}
 use Rattle.places.specs.Bytes.{part, bytesOf}
 use Rattle.judging.specs.declared.Effect.{Effect}
-use Rattle.judging.specs.Held.{Held, Fragment}
+use Rattle.judging.specs.Held.{Held}
 use Rattle.judging.specs.Fates.{sequenceWord}
 use Rattle.judging.specs.Messages.{joinedBy, base, grown}
 use Rattle.held.specs.declared.Accumulator.{Accumulator}

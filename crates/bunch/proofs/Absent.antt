@@ -10,7 +10,7 @@ use Rattle.tables.specs.declared.Slot.{Slot}
 use Rattle.tables.specs.Tables.{none, slotOf}
 use Rattle.places.specs.Bytes.{pasted, bytesOf, payloadBytes}
 use Rattle.places.proofs.Payloads.{length-payload}
-use Rattle.judging.specs.Held.{Held, Fragment}
+use Rattle.judging.specs.Held.{Fragment}
 use Rattle.judging.specs.Fates.{sequenceWord, overlaps, fate}
 use Rattle.judging.specs.Headers.{afterTest}
 use Rattle.judging.specs.Messages.{displaced}

@@ -1,6 +1,6 @@
 -- What the channel's step is at each slot, and what handing out gives.
 use Prim.Native.Nat.{ℕ, _≤_, _<_}
-use mathlib.Core.Path.{_≡_, refl, sym, ap, _∙_}
+use mathlib.Core.Path.{_≡_, refl}
 use mathlib.Core.Bool.{true, false}
 use mathlib.Core.List.{List, []}
 use native.Mathlib.Omega.{arith}
@@ -14,13 +14,13 @@ use Rattle.places.proofs.Pastes.{length-part}
 use Rattle.judging.specs.Held.{Held}
 use Rattle.held.specs.declared.Accumulator.{Accumulator}
 use Rattle.held.specs.Memory.{Memory, bitsOf, sizeOf, sizeAll, heldAt}
-use Rattle.held.specs.Steps.{outputShort, handed, nothing, Local, refuses, nothingHeld, taken, retired}
+use Rattle.held.specs.Steps.{outputShort, handed, refuses, nothingHeld, taken, retired}
 use Rattle.held.specs.Calls.{heldBy}
 use Rattle.held.proofs.Holding.{messageAt, kept}
 use Rattle.held.proofs.Keeping.{without-kept}
 use Rattle.held.proofs.Edits.{get-there, get-none}
 use Rattle.settling.specs.declared.inner.Settled.{Settled}
-use Rattle.settling.specs.Settling.{Using, Occupied, Lays}
+use Rattle.settling.specs.Settling.{Using, Lays}
 use Rattle.settling.specs.Giving.{Gives}
 use Rattle.settling.proofs.Numbers.{Numbers, numbers}
 use Rattle.settling.proofs.Giving.{at-same, free-same, unchanged, changes}

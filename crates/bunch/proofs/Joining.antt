@@ -1,17 +1,14 @@
 -- A fragment past its payload's tests: what is shown and left, whatever the channel holds.
-use Prim.Native.Nat.{ℕ, _+_, _*_, _^_, _≤_, _<_}
-use mathlib.Core.Path.{_≡_, refl, sym, ap, _∙_}
+use Prim.Native.Nat.{ℕ, _+_, _*_, _≤_, _<_}
+use mathlib.Core.Path.{_≡_, refl}
 use mathlib.Core.Bool.{Bool, true, false, cond}
 use mathlib.Core.List.{List, [], _∷_, _++_, map}
 use native.Mathlib.Omega.{arith}
-use lib.Dec.{ltb}
-use lib.ListN.{length, getD, take, length-append}
+use lib.ListN.{length, take}
 use borrow.Author.Tests.{lt-ltb, le-ltb}
 use Rattle.tables.specs.declared.Slot.{Slot}
 use Rattle.tables.specs.Tables.{Found, none, found, get, put, slotOf}
 use Rattle.places.specs.Bytes.{pasted, part, bytesOf, payloadBytes}
-use Rattle.places.proofs.Pastes.{length-part}
-use Rattle.places.proofs.Payloads.{length-payload}
 use Rattle.judging.specs.declared.Effect.{Effect}
 use Rattle.judging.specs.declared.Fate.{Fate}
 use Rattle.judging.specs.Held.{Held, Fragment, Displaced}
@@ -19,16 +16,16 @@ use Rattle.judging.specs.Fates.{fate}
 use Rattle.judging.specs.Headers.{afterTest}
 use Rattle.judging.specs.Messages.{displaced}
 use Rattle.judging.specs.Results.{result}
-use Rattle.judging.specs.Effects.{effectOn, bytesHeld, shown, left}
+use Rattle.judging.specs.Effects.{effectOn, shown, left}
 use Rattle.judging.specs.Standings.{valueOf}
 use Rattle.judging.proofs.Memory.{bytes-shown}
 use Rattle.judging.proofs.Judged.{met-left}
 use Rattle.held.specs.declared.Accumulator.{Accumulator}
-use Rattle.held.specs.Memory.{Memory, State, sizeOf, sizeAll, heldAt}
+use Rattle.held.specs.Memory.{Memory, State}
 use Rattle.held.specs.State.{Kept}
 use Rattle.held.specs.Steps.{payloadTooLong, payloadShort, outputShort, Answer, judged, toldAll, refuses, showing, added, adding, locally, full, over, holding, local}
 use Rattle.held.specs.Calls.{heldBy, limitsOf}
-use Rattle.held.proofs.Holding.{messageAt, kept}
+use Rattle.held.proofs.Holding.{kept}
 use Rattle.held.proofs.Keeping.{without-kept}
 use Rattle.settling.specs.declared.inner.Settled.{Settled}
 use Rattle.settling.specs.Settling.{Using, Lays}

@@ -8,7 +8,7 @@ use lib.Dec.{eqb, ltb}
 use lib.ListN.{length, getD, take, drop, length-append}
 use Rattle.types.specs.declared.RawBunchHeader.{RawBunchHeader}
 use Rattle.tables.specs.declared.Slot.{Slot}
-use Rattle.tables.specs.Tables.{Found, none, found, slotOf}
+use Rattle.tables.specs.Tables.{found, slotOf}
 use Rattle.places.specs.Bytes.{pasted, part, bytesOf, payloadBytes}
 use Rattle.places.proofs.Pastes.{length-part}
 use Rattle.places.proofs.Payloads.{length-payload}

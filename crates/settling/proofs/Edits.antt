@@ -1,5 +1,5 @@
 -- Each edit's steps together lay the state that it means.
-use Prim.Native.Nat.{ℕ, suc, _+_, _-_, _≤_, _<_}
+use Prim.Native.Nat.{ℕ, _+_, _-_, _≤_, _<_}
 use mathlib.Core.Path.{_≡_, refl, sym, ap, _∙_}
 use mathlib.Core.List.{List, [], _∷_, _++_}
 use native.Mathlib.Nat.{not-suc-le-zero, le-of-suc-le-suc}
@@ -10,19 +10,18 @@ use Rattle.tables.specs.Columns.{laid, insertedAt, removedAt}
 use Rattle.tables.specs.Tables.{put, without, values}
 use Rattle.tables.proofs.Columns.{laid-twice}
 use Rattle.places.specs.Bytes.{pasted, part, bytesOf, payloadBytes}
-use Rattle.places.specs.Packed.{joined}
 use Rattle.places.proofs.Pastes.{length-part}
 use Rattle.places.proofs.Payloads.{length-payload}
 use Rattle.places.proofs.Arena as A
 use Rattle.judging.specs.Held.{Held}
 use Rattle.held.specs.declared.Accumulator.{Accumulator}
-use Rattle.held.specs.Memory.{Memory, memory, placeOf, bitsOf, sizeOf, sizeAll, heldAt, bytesAll}
+use Rattle.held.specs.Memory.{Memory, memory, placeOf, bitsOf, sizeOf, heldAt}
 use Rattle.held.specs.Calls.{heldBy}
 use Rattle.held.proofs.Holding.{columns, bytes-first, starts, starts-next}
 use Rattle.held.proofs.Edits.{packed, lays-removed, live-removed, bits-removed, bytes-removed, lays-changed, live-changed, bits-changed, bytes-changed, lays-inserted, live-inserted, bits-inserted, bytes-inserted}
 use Rattle.held.proofs.Moves.{packed-at, bytes-out, bytes-in}
 use Rattle.settling.specs.declared.inner.Settled.{Settled}
-use Rattle.settling.specs.Settling.{Occupied, Vacant, Changes, Starts, Is, settled, Lays}
+use Rattle.settling.specs.Settling.{Occupied, Changes, Starts, Is, settled, Lays}
 use Rattle.settling.proofs.Numbers.{numbers, free-numbers}
 
 bits-of : (h : Held) {p bytes : List ℕ} → Is h p bytes → h .message .bits ≡ bitsOf p

@@ -8,16 +8,15 @@ use native.Mathlib.Omega.{arith}
 use lib.ListN.{length, getD, set, take}
 use lib.Seq.{length-take-le}
 use Rattle.tables.specs.declared.Slot.{Slot}
-use Rattle.tables.specs.Tables.{none, found, put, values, entries, slotOf}
+use Rattle.tables.specs.Tables.{none, found, entries, slotOf}
 use Rattle.tables.proofs.Join.{at-put}
-use Rattle.judging.specs.Held.{Held}
 use Rattle.held.specs.declared.Accumulator.{Accumulator}
 use Rattle.held.specs.declared.inner.Checked.{Checked}
-use Rattle.held.specs.Memory.{Memory, State, heldAt, heldIn, stateOf, bytesAll, laidIn}
+use Rattle.held.specs.Memory.{Memory, heldAt, heldIn, stateOf, bytesAll}
 use Rattle.held.specs.State.{Kept}
 use Rattle.held.specs.Steps.{Act, Answer, refused, Local, holding, local, after}
 use Rattle.held.specs.Sound.{sound}
-use Rattle.held.specs.Calls.{unsound, heldBy, tested, limitsOf, counting, called}
+use Rattle.held.specs.Calls.{unsound, heldBy, tested, limitsOf, called}
 use Rattle.held.proofs.Soundness.{stands, passes}
 use Rattle.held.proofs.Holding.{messageAt, length-held, columns, message-at, same-memory, same-counts}
 use Rattle.held.proofs.Laying.{laid-stands, state-back}

@@ -1,6 +1,5 @@
 -- The numbers of sound memory at a slot: what the indices and sums of an edit ask.
 use Prim.Native.Nat.{ℕ, suc, _+_, _*_, _≤_, _<_}
-use mathlib.Core.Path.{_≡_, sym, _∙_}
 use mathlib.Core.List.{[]}
 use native.Mathlib.Omega.{arith}
 use lib.ListN.{length, getD}

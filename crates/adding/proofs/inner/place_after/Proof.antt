@@ -1,5 +1,4 @@
 -- A new message or the one that is held.
-use mathlib.Core.Path.{_≡_, refl, _∙_}
 use borrow.Author.Needs.{needs}
 use Rattle.adding.proofs.inner.place_after.Statement.{statement}
 use Rattle.adding.proofs.inner.place_after.Tie as tie

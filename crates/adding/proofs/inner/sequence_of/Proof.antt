@@ -1,5 +1,4 @@
 -- The sequence as its word, which fits.
-use Prim.Native.Nat.{_^_, _<_}
 use mathlib.Core.Path.{_≡_, ap, _∙_}
 use mir.Syntax.{w32}
 use mir.Val.{SFits, ofZ}

@@ -1,5 +1,4 @@
 -- What stays starts with the words and bytes that it means; else nothing changes.
-use mathlib.Core.Path.{_≡_, refl, _∙_}
 use Rattle.adding.proofs.Settles.{new-is, starting, staying}
 use borrow.Author.Needs.{needs}
 use Rattle.adding.proofs.inner.settle_free.Statement.{statement}

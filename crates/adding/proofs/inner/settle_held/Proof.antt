@@ -1,5 +1,5 @@
 -- What stays is changed by the words and bytes that it means; else the message goes.
-use mathlib.Core.Path.{_≡_, refl, ap, _∙_}
+use mathlib.Core.Path.{refl, _∙_}
 use native.Mathlib.Omega.{arith}
 use Rattle.settling.proofs.Numbers.{numbers}
 use Rattle.adding.proofs.Settles.{stayed-is, changing}

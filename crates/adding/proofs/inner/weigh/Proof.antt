@@ -1,7 +1,5 @@
 -- Each part is what its function ensures.
-use mathlib.Core.Path.{_≡_, refl, ap, _∙_}
-use lib.ListN.{length}
-use mathlib.Core.Bool.{cond}
+use mathlib.Core.Path.{refl, _∙_}
 use borrow.Author.Needs.{needs}
 use Rattle.adding.proofs.inner.weigh.Statement.{statement}
 use Rattle.adding.proofs.inner.weigh.Tie as tie

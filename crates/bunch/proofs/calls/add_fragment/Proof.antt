@@ -1,5 +1,5 @@
 -- Past the test the inner form gives the reply.
-use mathlib.Core.Path.{_≡_, refl, sym, _∙_}
+use mathlib.Core.Path.{sym, _∙_}
 use Rattle.held.specs.Memory.{memory}
 use Rattle.held.specs.Steps.{adding}
 use Rattle.settling.proofs.Giving.{goes, ten, passed}

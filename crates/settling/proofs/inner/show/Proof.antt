@@ -1,8 +1,5 @@
 -- The payload goes behind what was copied to the front.
-use mathlib.Core.Path.{sym, _∙_}
 use native.Mathlib.Omega.{arith}
-use Rattle.places.specs.Bytes.{part, payloadBytes}
-use Rattle.places.proofs.Pastes.{length-part}
 use Rattle.settling.proofs.Edits.{shown}
 use borrow.Author.Needs.{needs}
 use Rattle.settling.proofs.inner.show.Statement.{statement}

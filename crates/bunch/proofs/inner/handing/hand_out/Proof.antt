@@ -1,9 +1,6 @@
 -- The numbers at the slot keep the steps in range. What they show and drop is the step of a message that is handed out.
-use mathlib.Core.Path.{_≡_, refl, sym, _∙_}
 use native.Mathlib.Omega.{arith}
 use lib.ListN.{drop}
-use Rattle.words.specs.Words.{headerFrom}
-use Rattle.held.specs.Memory.{memory, bitsOf}
 use Rattle.held.proofs.Holding.{start-asks}
 use Rattle.bunch.proofs.Handing.{spot, gives-short, gives-message}
 use borrow.Author.Needs.{needs}

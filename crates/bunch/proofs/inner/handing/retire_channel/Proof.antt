@@ -1,7 +1,5 @@
 -- The slot that was found decides.
-use mathlib.Core.Path.{_≡_, sym, _∙_}
-use native.Mathlib.Omega.{arith}
-use Rattle.settling.proofs.Numbers.{rooms}
+use mathlib.Core.Path.{sym, _∙_}
 use Rattle.bunch.proofs.Handing.{retired-nothing}
 use borrow.Author.Needs.{needs}
 use Rattle.bunch.proofs.inner.handing.retire_channel.Statement.{statement}

@@ -1,5 +1,5 @@
 -- The slot that was found decides, and whether its message is finished.
-use mathlib.Core.Path.{_≡_, sym, _∙_}
+use mathlib.Core.Path.{sym, _∙_}
 use native.Mathlib.Omega.{arith}
 use Rattle.bunch.proofs.Handing.{spot, taken-finished, taken-not, taken-nothing}
 use borrow.Author.Needs.{needs}

@@ -1,6 +1,5 @@
 -- The payload's two tests, then the slot that was found decides.
-use mathlib.Core.Path.{_≡_, sym, _∙_}
-use native.Mathlib.Omega.{arith}
+use mathlib.Core.Path.{sym, _∙_}
 use Rattle.held.specs.Memory.{memory}
 use Rattle.judging.specs.Held.{Fragment}
 use Rattle.bunch.proofs.Joining.{always-same, gives-long, gives-few}

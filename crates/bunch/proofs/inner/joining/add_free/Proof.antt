@@ -1,6 +1,4 @@
 -- What the steps come to is Absent's.
-use Prim.Native.Nat.{_≤_}
-use mathlib.Core.Path.{_≡_, refl, sym, _∙_}
 use mathlib.Core.List.{[]}
 use native.Mathlib.Omega.{arith}
 use Rattle.judging.specs.Held.{Fragment}

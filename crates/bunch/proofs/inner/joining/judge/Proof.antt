@@ -1,5 +1,5 @@
 -- Both parts are what their functions ensure.
-use mathlib.Core.Path.{_≡_, refl, _∙_}
+use mathlib.Core.Path.{refl}
 use Rattle.bunch.proofs.Joining.{told-all}
 use borrow.Author.Needs.{needs}
 use Rattle.bunch.proofs.inner.joining.judge.Statement.{statement}

@@ -1,5 +1,5 @@
 -- The header that the words say.
-use mathlib.Core.Path.{_≡_, _∙_, ap}
+use mathlib.Core.Path.{_∙_, ap}
 use Rattle.words.specs.Words.{headerFrom}
 use borrow.Author.Needs.{needs}
 use Rattle.bunch.proofs.inner.place.header_in.Statement.{statement}
