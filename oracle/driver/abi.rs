@@ -14,8 +14,38 @@ pub type ReaderOut = [u64; 4];
 /// A reading call's (crates/exports_packet/specs/Packets.antt).
 pub type BunchOut = [u64; 34];
 
+/// The accumulator's calls: 0 or the refusal's number and what it returns, how many places and bits then count (not of an opening,
+/// which has its limits first), and the answer (crates/exports_bunch).
+pub type LimitsOut = [u64; 5];
+pub type FragmentOut = [u64; 79];
+pub type HandedOut = [u64; 26];
+pub type DrainedOut = [u64; 6];
+
 /// A writing call's: 0 and up to which bit the packet is written, or the refusal's number and what it returns.
 pub type WriteOut = [u64; 3];
+
+macro_rules! adding {
+    ($($name:ident;)*) => {
+        unsafe extern "C" {
+            $(pub fn $name(
+                max_active: usize, max_buffered_bits: u64, active: usize, total: u64, ch_index: u32, header: *const [u64; 20],
+                payload: *const u8, n: usize, bits: u64, channels: *mut u32, i: usize, places: *mut [u64; 24], j: usize,
+                arena: *mut u8, k: usize, output: *mut u8, l: usize, out: *mut FragmentOut,
+            );)*
+        }
+    };
+}
+
+macro_rules! handing {
+    ($($name:ident;)*) => {
+        unsafe extern "C" {
+            $(pub fn $name(
+                max_active: usize, max_buffered_bits: u64, active: usize, total: u64, ch_index: u32, channels: *mut u32, i: usize,
+                places: *mut [u64; 24], j: usize, arena: *mut u8, k: usize, output: *mut u8, l: usize, out: *mut HandedOut,
+            );)*
+        }
+    };
+}
 
 macro_rules! reads {
     ($out:ty; $($name:ident($($argument:ident: $kind:ty),*);)*) => {
@@ -55,6 +85,37 @@ unsafe extern "C" {
         out: *mut WriteOut,
     );
     pub fn gritwheel_close_packet(packet: *mut u8, m: usize, at: u64, out: *mut WriteOut);
+    #[rustfmt::skip]
+    pub fn gritwheel_with_limits(
+        max_active: usize, max_buffered_bits: u64, channels: *const u32, i: usize, places: *const [u64; 24], j: usize,
+        arena: *const u8, k: usize, out: *mut LimitsOut,
+    );
+    #[rustfmt::skip]
+    pub fn gritwheel_drain_unfinished(
+        max_active: usize, max_buffered_bits: u64, active: usize, total: u64, channels: *const u32, i: usize,
+        places: *const [u64; 24], j: usize, arena: *const u8, k: usize, output: *mut u8, l: usize, list: *mut [u64; 22], m: usize,
+        out: *mut DrainedOut,
+    );
+}
+
+adding! {
+    gritwheel_add_fragment;
+}
+
+handing! {
+    gritwheel_take_completed;
+    gritwheel_retire_channel;
+}
+
+// The inner forms, over memory that was tested, which only the timing program calls.
+#[cfg(chains)]
+adding! {
+    timing_add_fragment;
+}
+
+#[cfg(chains)]
+handing! {
+    timing_take_completed;
 }
 
 reads! {

@@ -1,18 +1,22 @@
 // Compares our library with the Rust, call by call; without our library it records the Rust's answers.
 //
-//   driver [--long] [--seed N] [--share N]     built with --cfg ours
+//   driver [--long] [--seed N] [--share N]     built with --cfg ours, --cfg bunch, or both
 //   driver --record N                          built without
+//
+// `bunch` is the accumulator and its library, `ours` all the others.
 
-#![cfg_attr(not(ours), allow(dead_code))]
+#![cfg_attr(not(all(ours, bunch)), allow(dead_code))]
 
-#[cfg(ours)]
+#[cfg(any(ours, bunch))]
 mod abi;
 mod bitio;
 mod bits;
-#[cfg(ours)]
+mod bunch;
+#[cfg(any(ours, bunch))]
 mod compare;
 mod field;
-#[cfg(ours)]
+mod header;
+#[cfg(any(ours, bunch))]
 mod lent;
 #[cfg(not(ours))]
 mod line;
@@ -28,7 +32,7 @@ struct Given {
     seed: u64,
     /// One input in so many is compared.
     share: u64,
-    #[cfg_attr(ours, allow(dead_code))]
+    #[cfg_attr(any(ours, bunch), allow(dead_code))]
     record: usize,
 }
 
@@ -47,16 +51,21 @@ fn given() -> Option<Given> {
     Some(given)
 }
 
-#[cfg(ours)]
+#[cfg(any(ours, bunch))]
 fn run(given: &Given) {
     compare::watch_for_crashes();
-    bitio::inputs::Inputs::new(given.seed, given.share, given.long).run();
-    field::inputs::Inputs::new(given.seed, given.share, given.long).run();
-    packet::inputs::Inputs::new(given.seed, given.share, given.long).run();
-    writer::inputs::Inputs::new(given.seed, given.share, given.long).run();
+    #[cfg(ours)]
+    {
+        bitio::inputs::Inputs::new(given.seed, given.share, given.long).run();
+        field::inputs::Inputs::new(given.seed, given.share, given.long).run();
+        packet::inputs::Inputs::new(given.seed, given.share, given.long).run();
+        writer::inputs::Inputs::new(given.seed, given.share, given.long).run();
+    }
+    #[cfg(bunch)]
+    bunch::inputs::Inputs::new(given.seed, given.share, given.long).run();
 }
 
-#[cfg(not(ours))]
+#[cfg(not(any(ours, bunch)))]
 fn run(given: &Given) {
     bitio::records::print(given.record);
     field::records::print(given.record * 2 / 5);

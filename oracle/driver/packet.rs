@@ -11,7 +11,7 @@ mod ours;
 pub mod records;
 #[cfg(ours)]
 mod shown;
-mod streams;
+pub mod streams;
 mod tables;
 
 use tables::Columns;

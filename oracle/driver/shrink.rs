@@ -10,9 +10,11 @@ pub struct Parts {
     pub argument: u64,
 }
 
-/// A number's smaller forms.
+/// A number's smaller forms: less by a half, a quarter and so on, so that few steps lead down to any number.
 pub fn smaller(number: u64) -> Vec<u64> {
-    let mut list = vec![0, 1, number / 2, number - number / 4, number.saturating_sub(8), number.saturating_sub(1)];
+    let mut list = vec![0, 1];
+    list.extend((1..64).map(|shift| number - (number >> shift)));
+    list.extend([number.saturating_sub(8), number.saturating_sub(1)]);
     list.retain(|&other| other < number);
     list.dedup();
     list

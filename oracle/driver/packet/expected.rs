@@ -5,10 +5,10 @@
 
 use super::{Answer, BUNCH, Call, Case, END, MALFORMED, tables};
 use crate::bits::Bits;
+use crate::header;
 use vrf_bitio::BitReader;
 use vrf_net::bunch::RawBunchHeader;
 use vrf_net::packet::{PacketReadResult, RawPacketReader};
-use vrf_net::types::ChannelCloseReason;
 
 /// "bits before it are data"; "bit 0 without an end mark"
 pub fn data_bits(packet: &[u8]) -> u64 {
@@ -35,32 +35,11 @@ fn part(packet: &[u8], from: u64, to: u64) -> Vec<u8> {
 /// A header's twenty fields, and its payload's window; both places counted from the bit `from` of the packet.
 pub fn bunch_words(header: &RawBunchHeader, payload: &BitReader<'_>, from: u64) -> [u64; 23] {
     assert!(header.partial_error_kind.is_none(), "the Rust's packet reader gives no kind");
-    let reason = u64::from(header.close_reason == ChannelCloseReason::Dormancy);
-    [
-        u64::from(header.packet_id as u32),
-        u64::from(header.ch_index),
-        header.b_open.into(),
-        header.b_close.into(),
-        header.b_dormant.into(),
-        header.b_is_replication_paused.into(),
-        header.b_reliable.into(),
-        header.b_partial.into(),
-        header.b_partial_initial.into(),
-        header.b_partial_final.into(),
-        header.b_has_package_map_exports.into(),
-        header.b_has_must_be_mapped_guids.into(),
-        u64::from(header.ch_sequence as u32),
-        reason,
-        header.payload_bit_count as u64,
-        header.payload_bit_offset as u64 + from,
-        header.has_partial_error.into(),
-        0,
-        header.is_partial_completed.into(),
-        header.has_channel_limit_error.into(),
-        payload.start_bit + from,
-        payload.pos,
-        payload.len,
-    ]
+    let mut words = [0; 23];
+    words[..20].copy_from_slice(&header::words(header));
+    words[15] += from;
+    words[20..].copy_from_slice(&[payload.start_bit + from, payload.pos, payload.len]);
+    words
 }
 
 struct Alone {
