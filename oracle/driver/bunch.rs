@@ -9,6 +9,8 @@ mod memory;
 mod met;
 #[cfg(bunch)]
 mod ours;
+#[cfg(not(ours))]
+pub mod records;
 #[cfg(bunch)]
 mod shown;
 #[cfg(bunch)]

@@ -71,6 +71,7 @@ fn run(given: &Given) {
     field::records::print(given.record * 2 / 5);
     packet::records::print(given.record / 2);
     writer::records::print(given.record / 5);
+    bunch::records::print(given.record * 3 / 10);
 }
 
 fn main() {
