@@ -1,16 +1,26 @@
 // Times the Rust and our library, case by case: nanoseconds per operation of each, and ours divided by the Rust's.
 //
-// Both sides read the same input, and must agree before they are timed.
+// Both sides read the same input, and must agree before they are timed. What is timed is what the program was built for: each part
+// needs its library (bench/run).
+
+#![cfg_attr(not(all(loops, singles, writes, bunch)), allow(dead_code))]
 
 // The driver uses the rest of these.
-#[cfg(singles)]
+#[cfg(any(singles, bunch))]
 #[allow(dead_code)]
 #[path = "../oracle/driver/abi.rs"]
 mod abi;
 #[cfg(singles)]
 #[path = "../oracle/driver/bits.rs"]
 mod bits;
+#[cfg(bunch)]
+mod chains;
+#[cfg(bunch)]
+#[allow(dead_code)]
+#[path = "../oracle/driver/header.rs"]
+mod header;
 mod inputs;
+#[cfg(loops)]
 mod loops;
 #[cfg(singles)]
 mod packets;
@@ -48,6 +58,7 @@ fn main() {
         std::process::exit(2);
     };
     timing.title();
+    #[cfg(loops)]
     loops::run(&timing);
     #[cfg(singles)]
     {
@@ -57,4 +68,6 @@ fn main() {
     }
     #[cfg(writes)]
     writes::run(&timing);
+    #[cfg(bunch)]
+    chains::run(&timing);
 }

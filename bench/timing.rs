@@ -30,9 +30,22 @@ impl Timing {
         println!("{:<44}{:>10}{:>10}{:>8}", "case", "Rust ns", "ours ns", "ratio");
     }
 
+    pub fn wants(&self, name: &str) -> bool {
+        name.contains(&self.only)
+    }
+
     /// Each side does `operations` operations and answers a number over all its results.
     pub fn compare(&self, name: &str, operations: usize, rust: impl FnMut() -> u64, ours: impl FnMut() -> u64) {
-        if let Some((first, second, ratio)) = self.measured(name, rust, ours) {
+        self.print(name, operations, self.measured(name, SAMPLE_SECONDS, rust, ours));
+    }
+
+    /// The same with one run a sample, for operations that are many and may take long.
+    pub fn compare_once(&self, name: &str, operations: usize, rust: impl FnMut() -> u64, ours: impl FnMut() -> u64) {
+        self.print(name, operations, self.measured(name, 0.0, rust, ours));
+    }
+
+    fn print(&self, name: &str, operations: usize, measured: Option<(f64, f64, f64)>) {
+        if let Some((first, second, ratio)) = measured {
             let scale = 1e9 / operations as f64;
             println!("{name:<44}{:>10.2}{:>10.2}{ratio:>8.2}", first * scale, second * scale);
         }
@@ -40,15 +53,22 @@ impl Timing {
 
     /// Each side writes so many bytes; MB/s of each.
     pub fn rates(&self, name: &str, bytes: u64, rust: impl FnMut() -> u64, ours: impl FnMut() -> u64) {
-        if let Some((first, second, ratio)) = self.measured(name, rust, ours) {
+        if let Some((first, second, ratio)) = self.measured(name, SAMPLE_SECONDS, rust, ours) {
             let megabytes = bytes as f64 / 1e6;
             println!("{name:<44}{:>5.0} MB/s{:>5.0} MB/s{ratio:>8.2}", megabytes / first, megabytes / second);
         }
     }
 
-    /// The seconds of each side, and ours over the Rust's; None where the case isn't wanted.
-    fn measured(&self, name: &str, mut rust: impl FnMut() -> u64, mut ours: impl FnMut() -> u64) -> Option<(f64, f64, f64)> {
-        if !name.contains(&self.only) {
+    /// The seconds of each side, and ours over the Rust's, in samples of at least so many of the Rust's; None where the case isn't
+    /// wanted.
+    fn measured(
+        &self,
+        name: &str,
+        sample: f64,
+        mut rust: impl FnMut() -> u64,
+        mut ours: impl FnMut() -> u64,
+    ) -> Option<(f64, f64, f64)> {
+        if !self.wants(name) {
             return None;
         }
         let (expected, found) = (rust(), ours());
@@ -57,7 +77,7 @@ impl Timing {
             std::process::exit(1);
         }
         let mut times = 1;
-        while seconds(times, &mut rust) < SAMPLE_SECONDS {
+        while sample > 0.0 && seconds(times, &mut rust) < sample {
             times *= 2;
         }
         let (mut first, mut second, mut ratios) = (Vec::new(), Vec::new(), Vec::new());
