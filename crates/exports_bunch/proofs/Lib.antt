@@ -1,0 +1,3 @@
+pub mod Told
+pub mod Draining
+pub mod Joining

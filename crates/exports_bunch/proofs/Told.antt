@@ -1,0 +1,17 @@
+-- What a call's promise says of the words and of the lent memory.
+use Prim.Native.Nat.{ℕ}
+use mathlib.Core.Path.{_≡_, ap, _∙_}
+use mathlib.Core.List.{List}
+use Rattle.held.specs.Memory.{Memory}
+use Rattle.held.specs.Calls.{Reply}
+use Rattle.bunch.specs.declared.Added.{Added}
+use Rattle.bunch.specs.declared.Taken.{Taken}
+use Rattle.bunch.specs.Answers.{ofTaken, ofAdded}
+use Rattle.exports_bunch.specs.Handed.{handedWords}
+use Rattle.exports_bunch.specs.Fragments.{fragmentWords}
+
+pub told-taken : (x : Taken) {m : Memory} {o : List ℕ} {y : Reply} {r : List ℕ} → ofTaken x m o ≡ y → ((k : Memory) → (p : List ℕ) → r ≡ handedWords (ofTaken x k p)) → (r ≡ handedWords y) × ((m ≡ y .memory) × (o ≡ y .output))
+told-taken x {m = m} {o = o} e f = (f m o ∙ ap handedWords e, (ap (λ (z : Reply). z .memory) e, ap (λ (z : Reply). z .output) e))
+
+pub told-added : (x : Added) {m : Memory} {o : List ℕ} {y : Reply} {r : List ℕ} → ofAdded x m o ≡ y → ((k : Memory) → (p : List ℕ) → r ≡ fragmentWords (ofAdded x k p)) → (r ≡ fragmentWords y) × ((m ≡ y .memory) × (o ≡ y .output))
+told-added x {m = m} {o = o} e f = (f m o ∙ ap fragmentWords e, (ap (λ (z : Reply). z .memory) e, ap (λ (z : Reply). z .output) e))

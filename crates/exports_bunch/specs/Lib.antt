@@ -1,0 +1,4 @@
+pub mod Handed
+pub mod Opening
+pub mod Drained
+pub mod Fragments

@@ -1,0 +1,151 @@
+// What taking and retiring answer, as words.
+ghost use mathlib.Core.Path.{_≡_};
+ghost use mathlib.Core.List.{List};
+ghost use Prim.Native.Nat.{ℕ};
+ghost use lib.ListN.{getD};
+ghost use Rattle.held.specs.Memory.{Memory};
+ghost use Rattle.bunch.specs.Answers.{errorPaper, ofTaken};
+ghost use Rattle.exports_bunch.specs.Handed.{handedWords};
+use bunch::BunchError;
+use bunch::Handed;
+use bunch::Taken;
+use words::of_header;
+
+pub type HandedWords = [u64; 26];
+
+pub struct Numbers {
+    pub number: u64,
+    pub returned: u64,
+}
+
+pub fn said(e: BunchError) -> Numbers
+    ensures { λ r. ⌜ r ≡ record { number = errorPaper e .number; returned = getD (errorPaper e .returns) 0 0 } ⌝ }
+{
+    match e {
+        BunchError::Unfit => Numbers {
+            number: 9,
+            returned: 0,
+        },
+        BunchError::Unsound => Numbers {
+            number: 10,
+            returned: 0,
+        },
+        BunchError::PayloadTooLong { count } => Numbers {
+            number: 11,
+            returned: count,
+        },
+        BunchError::PayloadShort { count } => Numbers {
+            number: 12,
+            returned: count,
+        },
+        BunchError::OutputShort { bytes } => Numbers {
+            number: 13,
+            returned: bytes,
+        },
+        BunchError::ListFull { places } => Numbers {
+            number: 14,
+            returned: places,
+        },
+    }
+}
+
+pub fn of_taken(r: Taken) -> HandedWords
+    ensures { λ x. ⌜ ((m : Memory) → (o : List ℕ) → x ≡ handedWords (ofTaken r m o)) ⌝ }
+{
+    let answer = r.answer;
+    let a = r.accumulator;
+    let active = a.active as u64;
+    let total = a.total_buffered_bits;
+    match answer {
+        Handed::Message { header, bit_count } => {
+            let h = of_header(header);
+            [
+                0,
+                0,
+                active,
+                total,
+                1,
+                h[0],
+                h[1],
+                h[2],
+                h[3],
+                h[4],
+                h[5],
+                h[6],
+                h[7],
+                h[8],
+                h[9],
+                h[10],
+                h[11],
+                h[12],
+                h[13],
+                h[14],
+                h[15],
+                h[16],
+                h[17],
+                h[18],
+                h[19],
+                bit_count,
+            ]
+        }
+        Handed::Nothing => [
+            0,
+            0,
+            active,
+            total,
+            0,
+            0,
+            0,
+            0,
+            0,
+            0,
+            0,
+            0,
+            0,
+            0,
+            0,
+            0,
+            0,
+            0,
+            0,
+            0,
+            0,
+            0,
+            0,
+            0,
+            0,
+            0,
+        ],
+        Handed::Refused(e) => {
+            let s = said(e);
+            [
+                s.number,
+                s.returned,
+                active,
+                total,
+                0,
+                0,
+                0,
+                0,
+                0,
+                0,
+                0,
+                0,
+                0,
+                0,
+                0,
+                0,
+                0,
+                0,
+                0,
+                0,
+                0,
+                0,
+                0,
+                0,
+                0,
+                0,
+            ]
+        }
+    }
+}
