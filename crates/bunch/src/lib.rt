@@ -23,11 +23,6 @@ pub enum BunchError {
     ListFull { places: u64 },
 }
 
-pub enum Opened {
-    Value(Accumulator),
-    Refused(BunchError),
-}
-
 // What taking or retiring hands out; the message's bytes are in the output.
 pub enum Handed {
     Message {
@@ -54,16 +49,5 @@ pub enum Judged {
 
 pub struct Added {
     pub answer: Judged,
-    pub accumulator: Accumulator,
-}
-
-// How many unfinished messages are in the list, and how many bytes in the output.
-pub enum Drained {
-    Messages { places: usize, bytes: usize },
-    Refused(BunchError),
-}
-
-pub struct Emptied {
-    pub answer: Drained,
     pub accumulator: Accumulator,
 }

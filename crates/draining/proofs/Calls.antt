@@ -13,7 +13,8 @@ use Rattle.held.specs.State.{Stands}
 use Rattle.held.specs.Steps.{outputShort}
 use Rattle.held.specs.Calls.{unsound, heldBy, tested}
 use Rattle.held.proofs.Holding.{places-are, kept}
-use Rattle.draining.specs.Draining.{listFull, unfinished, refuses, lists, drained}
+use Rattle.bunch.specs.Answers.{listFull}
+use Rattle.draining.specs.Draining.{unfinished, refuses, lists, drained}
 use Rattle.draining.specs.Shown.{shownCount, shownSize}
 use Rattle.draining.proofs.Unfinished.{counts-shown, sizes-shown}
 

@@ -10,12 +10,14 @@ use Rattle.window.specs.Parse.{Result, value, refusal}
 use Rattle.held.specs.declared.Accumulator.{Accumulator}
 use Rattle.held.specs.Steps.{payloadTooLong, payloadShort, outputShort}
 use Rattle.held.specs.Calls.{unsound}
-use Rattle.draining.specs.declared.BunchError.{BunchError}
+use Rattle.bunch.specs.declared.BunchError.{BunchError}
 use Rattle.draining.specs.declared.Drain.{Drain}
 use Rattle.draining.specs.declared.Emptied.{Emptied}
 use Rattle.draining.specs.declared.Opened.{Opened}
-use Rattle.draining.specs.Opening.{unfit, ofOpened}
-use Rattle.draining.specs.Draining.{listFull, bunchPaper, Reply, drainAnswer, ofEmptied}
+use Rattle.bunch.specs.Answers.{unfit}
+use Rattle.draining.specs.Opening.{ofOpened}
+use Rattle.bunch.specs.Answers.{listFull, errorPaper}
+use Rattle.draining.specs.Draining.{Reply, drainAnswer, ofEmptied}
 
 -- a refusal by its number and what it returns
 unbunch : Refusal → BunchError
@@ -26,7 +28,7 @@ unbunch r =
     (cond (eqb (r .number) 11) (BunchError.PayloadTooLong n)
     (cond (eqb (r .number) 12) (BunchError.PayloadShort n) (cond (eqb (r .number) 13) (BunchError.OutputShort n) (BunchError.ListFull n)))))
 
-unbunch-paper : (e : BunchError) → unbunch (bunchPaper e) ≡ e
+unbunch-paper : (e : BunchError) → unbunch (errorPaper e) ≡ e
 unfolding unbunch unfit unsound payloadTooLong payloadShort outputShort listFull
 unbunch-paper BunchError.Unfit = refl
 unbunch-paper BunchError.Unsound = refl

@@ -20,8 +20,10 @@ use Rattle.held.specs.Steps.{outputShort}
 use Rattle.held.specs.Calls.{unsound, heldBy, counting}
 use Rattle.held.proofs.Soundness.{stands, fits}
 use Rattle.held.proofs.Laying.{empty-held, empty-sound}
-use Rattle.draining.specs.Opening.{unfit, holdingNothing, opened}
-use Rattle.draining.specs.Draining.{listFull, unfinished, Reply, refuses, lists, drained}
+use Rattle.bunch.specs.Answers.{unfit}
+use Rattle.draining.specs.Opening.{holdingNothing, opened}
+use Rattle.bunch.specs.Answers.{listFull}
+use Rattle.draining.specs.Draining.{unfinished, Reply, refuses, lists, drained}
 
 -- ## Opening
 

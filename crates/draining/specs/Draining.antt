@@ -11,25 +11,11 @@ use Rattle.judging.specs.Held.{Held}
 use Rattle.held.specs.declared.Accumulator.{Accumulator}
 use Rattle.held.specs.Memory.{Memory, State, bytesAll}
 use Rattle.held.specs.Sound.{sound}
-use Rattle.held.specs.Steps.{payloadTooLong, payloadShort, outputShort}
+use Rattle.held.specs.Steps.{outputShort}
 use Rattle.held.specs.Calls.{unsound, heldBy, counting}
-use Rattle.draining.specs.declared.BunchError.{BunchError}
+use Rattle.bunch.specs.Answers.{listFull, errorPaper}
 use Rattle.draining.specs.declared.Drain.{Drain}
 use Rattle.draining.specs.declared.Emptied.{Emptied}
-use Rattle.draining.specs.Opening.{unfit}
-
--- "14+ record list full: … draining, places needed"
-unfoldable pub listFull : ℕ → Refusal
-listFull places = record { number = 14; returns = places ∷ [] }
-
--- the paper's number and values for each case
-abbrev pub bunchPaper : BunchError → Refusal
-bunchPaper BunchError.Unfit = unfit
-bunchPaper BunchError.Unsound = unsound
-bunchPaper (BunchError.PayloadTooLong count) = payloadTooLong count
-bunchPaper (BunchError.PayloadShort count) = payloadShort count
-bunchPaper (BunchError.OutputShort bytes) = outputShort bytes
-bunchPaper (BunchError.ListFull places) = listFull places
 
 -- "unfinished messages by ascending channel (the Rust's order is arbitrary) and drops finished ones": a state is by ascending channel
 unfoldable pub unfinished : State → State
@@ -69,7 +55,7 @@ drained a m output list =
 
 abbrev pub drainAnswer : Drain → Result ℕ
 drainAnswer (Drain.Messages n) = value n
-drainAnswer (Drain.Refused e) = refusal (bunchPaper e)
+drainAnswer (Drain.Refused e) = refusal (errorPaper e)
 
 abbrev pub ofEmptied : Emptied → List ℕ → List (List ℕ) → Reply
 ofEmptied r output list = record { answer = drainAnswer (r .answer); accumulator = r .accumulator; output = output; list = list }

@@ -1,17 +1,12 @@
 -- Opening the accumulator: "The accumulator's opening gives 9 for nothing else."
 use Prim.Native.Nat.{ℕ}
 use mathlib.Core.Bool.{cond}
-use mathlib.Core.List.{[]}
-use Rattle.window.specs.Refusals.{Refusal}
 use Rattle.window.specs.Parse.{Result, value, refusal}
 use Rattle.held.specs.declared.Accumulator.{Accumulator}
 use Rattle.held.specs.Memory.{Memory}
 use Rattle.held.specs.Sound.{fit}
+use Rattle.bunch.specs.Answers.{unfit}
 use Rattle.draining.specs.declared.Opened.{Opened}
-
--- "9+ opening limits or lent room unfit: nothing"
-unfoldable pub unfit : Refusal
-unfit = record { number = 9; returns = [] }
 
 abbrev pub ofOpened : Opened → Result Accumulator
 ofOpened (Opened.Value a) = value a

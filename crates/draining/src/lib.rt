@@ -1,25 +1,10 @@
 // The accumulator's opening and draining: vrf-net/src/bunch.rs's `with_limits` and `drain_unfinished`, over lent memory.
+use bunch::BunchError;
 use held::Accumulator;
 
 pub mod drains;
 pub mod inner;
 pub mod opening;
-
-// Why a call refused, each case with document 01's number.
-pub enum BunchError {
-    // 9
-    Unfit,
-    // 10
-    Unsound,
-    // 11
-    PayloadTooLong { count: u64 },
-    // 12
-    PayloadShort { count: u64 },
-    // 13
-    OutputShort { bytes: u64 },
-    // 14
-    ListFull { places: u64 },
-}
 
 // Refused is 9.
 pub enum Opened {

@@ -9,10 +9,11 @@ use Rattle.window.specs.Parse.{Result, value, refusal}
 use Rattle.held.specs.declared.Accumulator.{Accumulator}
 use Rattle.held.specs.Memory.{Memory}
 use Rattle.held.specs.Sound.{sound}
-use Rattle.draining.specs.declared.BunchError.{BunchError}
+use Rattle.bunch.specs.declared.BunchError.{BunchError}
 use Rattle.draining.specs.declared.Drain.{Drain}
 use Rattle.draining.specs.declared.Emptied.{Emptied}
-use Rattle.draining.specs.Draining.{Reply, bunchPaper, drainAnswer, ofEmptied, drained}
+use Rattle.bunch.specs.Answers.{errorPaper}
+use Rattle.draining.specs.Draining.{Reply, drainAnswer, ofEmptied, drained}
 use Rattle.draining.proofs.Calls.{ten}
 use Rattle.exports_bunch.specs.Drained.{drainedWords}
 
@@ -31,7 +32,7 @@ module _ (x : Emptied) (o : List ℕ) (l : List (List ℕ)) where
   unfolding drainedWords
   lists-words b h = rw h refl
 
-  refuses-words : {r : BunchError} (b : ℕ) → x .answer ≡ Drain.Refused r → bunchPaper r .number ∷ getD (bunchPaper r .returns) 0 0 ∷ x .accumulator .active ∷ x .accumulator .«total_buffered_bits» ∷ 0 ∷ 0 ∷ [] ≡ drainedWords (ofEmptied x o l) b
+  refuses-words : {r : BunchError} (b : ℕ) → x .answer ≡ Drain.Refused r → errorPaper r .number ∷ getD (errorPaper r .returns) 0 0 ∷ x .accumulator .active ∷ x .accumulator .«total_buffered_bits» ∷ 0 ∷ 0 ∷ [] ≡ drainedWords (ofEmptied x o l) b
   unfolding drainedWords
   refuses-words b h = rw h refl
 
@@ -42,5 +43,5 @@ module _ (x : Emptied) (o : List ℕ) (l : List (List ℕ)) where
     pub told-lists : {n : ℕ} (b : ℕ) → x .answer ≡ Drain.Messages n → (0 ∷ 0 ∷ x .accumulator .active ∷ x .accumulator .«total_buffered_bits» ∷ n ∷ b ∷ [] ≡ drainedWords y b) × ((o ≡ y .output) × (l ≡ y .list))
     told-lists b h = (lists-words b h ∙ ap (λ (z : Reply). drainedWords z b) e, leaves)
 
-    pub told-refuses : {r : BunchError} (b : ℕ) → x .answer ≡ Drain.Refused r → (bunchPaper r .number ∷ getD (bunchPaper r .returns) 0 0 ∷ x .accumulator .active ∷ x .accumulator .«total_buffered_bits» ∷ 0 ∷ 0 ∷ [] ≡ drainedWords y b) × ((o ≡ y .output) × (l ≡ y .list))
+    pub told-refuses : {r : BunchError} (b : ℕ) → x .answer ≡ Drain.Refused r → (errorPaper r .number ∷ getD (errorPaper r .returns) 0 0 ∷ x .accumulator .active ∷ x .accumulator .«total_buffered_bits» ∷ 0 ∷ 0 ∷ [] ≡ drainedWords y b) × ((o ≡ y .output) × (l ≡ y .list))
     told-refuses b h = (refuses-words b h ∙ ap (λ (z : Reply). drainedWords z b) e, leaves)

@@ -1,11 +1,9 @@
 // Draining. It writes six words; the unfinished messages go to the output and the list.
 ghost use mathlib.Core.Path.{_≡_};
-ghost use lib.ListN.{getD};
 ghost use Rattle.held.specs.Memory.{memory};
-ghost use Rattle.draining.specs.Draining.{bunchPaper, drained};
+ghost use Rattle.draining.specs.Draining.{drained};
 ghost use Rattle.exports_bunch.specs.Drained.{shownBytes, drainedWords};
-use crate::taken::Numbers;
-use draining::BunchError;
+use crate::taken::said;
 use draining::Drain;
 use draining::Listed;
 use draining::drains;
@@ -14,37 +12,6 @@ use held::Accumulator;
 use places::Place;
 
 pub type DrainedWords = [u64; 6];
-
-fn refusal(e: BunchError) -> Numbers
-    ensures { λ r. ⌜ r ≡ record { number = bunchPaper e .number; returned = getD (bunchPaper e .returns) 0 0 } ⌝ }
-{
-    match e {
-        BunchError::Unfit => Numbers {
-            number: 9,
-            returned: 0,
-        },
-        BunchError::Unsound => Numbers {
-            number: 10,
-            returned: 0,
-        },
-        BunchError::PayloadTooLong { count } => Numbers {
-            number: 11,
-            returned: count,
-        },
-        BunchError::PayloadShort { count } => Numbers {
-            number: 12,
-            returned: count,
-        },
-        BunchError::OutputShort { bytes } => Numbers {
-            number: 13,
-            returned: bytes,
-        },
-        BunchError::ListFull { places } => Numbers {
-            number: 14,
-            returned: places,
-        },
-    }
-}
 
 #[no_mangle]
 pub extern "C" fn gritwheel_drain_unfinished(
@@ -86,7 +53,7 @@ pub extern "C" fn gritwheel_drain_unfinished(
             ];
         }
         Drain::Refused(e) => {
-            let s = refusal(e);
+            let s = said(e);
             *out = [
                 s.number,
                 s.returned,

@@ -9,7 +9,8 @@ use Rattle.held.specs.Sound.{sound}
 use Rattle.held.specs.Steps.{outputShort}
 use Rattle.held.proofs.Soundness.{stands}
 use Rattle.held.proofs.Holding.{start-asks}
-use Rattle.draining.specs.Draining.{listFull, refuses}
+use Rattle.bunch.specs.Answers.{listFull}
+use Rattle.draining.specs.Draining.{refuses}
 use Rattle.draining.proofs.Calls.{passed, failed, messages-are, bytes-are, ten, thirteen, fourteen, all-listed}
 use Rattle.draining.proofs.drains.drain_unfinished.Statement.{statement}
 use Rattle.draining.proofs.drains.drain_unfinished.Tie as tie

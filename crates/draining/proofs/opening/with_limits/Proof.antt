@@ -5,7 +5,8 @@ use mathlib.Core.Bool.{Bool, true, false}
 use Rattle.window.specs.Parse.{value, refusal}
 use Rattle.held.specs.Memory.{Memory, memory}
 use Rattle.held.specs.Sound.{fit}
-use Rattle.draining.specs.Opening.{unfit, holdingNothing, opened}
+use Rattle.bunch.specs.Answers.{unfit}
+use Rattle.draining.specs.Opening.{holdingNothing, opened}
 use borrow.Author.Needs.{needs}
 use Rattle.draining.proofs.opening.with_limits.Statement.{statement}
 use Rattle.draining.proofs.opening.with_limits.Tie as tie

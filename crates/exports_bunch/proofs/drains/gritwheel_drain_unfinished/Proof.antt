@@ -35,7 +35,7 @@ returns-2 c =
     let a : Accumulator = record { «max_active» = x .max-active; «max_buffered_bits» = x .max-buffered-bits; active = x .active; «total_buffered_bits» = x .total } in
     let m = memory (x .channels .now) (x .places .now) (x .arena .now) in
     let reply = c .before .before .before .before .before .before .before .before .before .drain-unfinished in
-    rw (c .before .refusal .ensures) (told-refuses (reply .result) _ _ (reply .ensures) (shownBytes a m) (c .before .before .before .answer2 .given .1))
+    rw (c .before .said .ensures) (told-refuses (reply .result) _ _ (reply .ensures) (shownBytes a m) (c .before .before .before .answer2 .given .1))
 
 pub gritwheel-drain-unfinished-spec : {M : Type 1} → statement M
 gritwheel-drain-unfinished-spec = tie.close (tie.spec (λ c κs. search needs) (λ c. search needs) count-requires (λ c. search needs) (λ c κs. search needs) (λ c. search needs) (λ c. search needs) returns (λ c. search needs) (λ c. search needs) returns-2)
