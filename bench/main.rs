@@ -15,7 +15,7 @@ mod abi;
 mod bits;
 #[cfg(bunch)]
 mod chains;
-#[cfg(bunch)]
+#[cfg(any(bunch, singles))]
 #[allow(dead_code)]
 #[path = "../oracle/driver/header.rs"]
 mod header;

@@ -3,13 +3,13 @@
 
 use crate::abi::*;
 use crate::bits::Bits;
+use crate::header;
 use crate::inputs::realistic_length;
 use crate::random::Random;
 use crate::timing::Timing;
 use vrf_bitio::BitReader;
 use vrf_net::bunch::RawBunchHeader;
 use vrf_net::packet::RawPacketReader;
-use vrf_net::types::ChannelCloseReason;
 
 // The crate timing's function: one bunch over tables that were tested. Nothing checks these lines against its source.
 unsafe extern "C" {
@@ -74,32 +74,8 @@ fn mixed(sum: u64, field: u64) -> u64 {
 }
 
 fn header_sum(sum: u64, header: &RawBunchHeader, payload: &BitReader<'_>) -> u64 {
-    let fields: [u64; 23] = [
-        u64::from(header.packet_id as u32),
-        u64::from(header.ch_index),
-        header.b_open.into(),
-        header.b_close.into(),
-        header.b_dormant.into(),
-        header.b_is_replication_paused.into(),
-        header.b_reliable.into(),
-        header.b_partial.into(),
-        header.b_partial_initial.into(),
-        header.b_partial_final.into(),
-        header.b_has_package_map_exports.into(),
-        header.b_has_must_be_mapped_guids.into(),
-        u64::from(header.ch_sequence as u32),
-        u64::from(header.close_reason == ChannelCloseReason::Dormancy),
-        header.payload_bit_count as u64,
-        header.payload_bit_offset as u64,
-        header.has_partial_error.into(),
-        header.partial_error_kind.is_some().into(),
-        header.is_partial_completed.into(),
-        header.has_channel_limit_error.into(),
-        payload.start_bit,
-        payload.pos,
-        payload.len,
-    ];
-    fields.into_iter().fold(sum, mixed)
+    let fields = header::words(header).into_iter().chain([payload.start_bit, payload.pos, payload.len]);
+    fields.fold(sum, mixed)
 }
 
 fn rust(packets: &Packets, reader: &mut RawPacketReader) -> u64 {

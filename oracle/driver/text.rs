@@ -40,3 +40,10 @@ pub fn window([start, position, length]: Window) -> String {
 pub fn damage(what: Option<&str>) -> String {
     what.map_or(String::new(), |what| format!("; DAMAGED: {what}"))
 }
+
+/// How often each named thing was met, and with `all` that none was missed.
+pub fn met(what: &str, names: &[&str], counts: &[u64], all: bool) {
+    let list: Vec<_> = names.iter().zip(counts).map(|(name, count)| format!("{name} {count}")).collect();
+    println!("{what} with: {}", list.join(", "));
+    assert!(!all || counts.iter().all(|&count| count > 0), "a case didn't occur");
+}

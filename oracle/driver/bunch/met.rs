@@ -2,6 +2,7 @@
 
 use super::{Answer, Call, Case};
 use crate::header::{ERROR, FINAL, INITIAL, SEQUENCE};
+use crate::text;
 
 const NAMES: [&str; 17] = [
     "overlapping initial", "a finished message displaced", "two displaced", "two errors", "a flagged final", "bits that no one reports",
@@ -52,8 +53,6 @@ impl Met {
     }
 
     pub fn print(&self, all: bool) {
-        let list: Vec<_> = NAMES.iter().zip(self.0).map(|(name, count)| format!("{name} {count}")).collect();
-        println!("calls with: {}", list.join(", "));
-        assert!(!all || self.0.iter().all(|&count| count > 0), "a case didn't occur");
+        text::met("calls", &NAMES, &self.0, all);
     }
 }

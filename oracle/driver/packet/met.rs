@@ -1,6 +1,7 @@
 // What the compared bunches had, so that it is seen that each case occurred.
 
 use super::{Answer, BUNCH, Case, MALFORMED};
+use crate::text;
 
 const NAMES: [&str; 20] = [
     "open", "close", "dormant", "paused", "reliable", "partial", "initial", "final", "exports", "mapped", "partial error",
@@ -37,8 +38,6 @@ impl Met {
     }
 
     pub fn print(&self) {
-        let list: Vec<_> = NAMES.iter().zip(self.0).map(|(name, count)| format!("{name} {count}")).collect();
-        println!("bunches with: {}", list.join(", "));
-        assert!(self.0.iter().all(|&count| count > 0), "a case didn't occur");
+        text::met("bunches", &NAMES, &self.0, true);
     }
 }
