@@ -6,6 +6,7 @@ use mathlib.Core.List.{List, []}
 use native.Mathlib.Omega.{arith}
 use lib.ListN.{length, getD, take, drop}
 use borrow.Author.Tests.{lt-ltb, le-ltb, eq-eqb, ne-eqb}
+use Rattle.window.specs.Refusals.{outputShort}
 use Rattle.tables.specs.declared.Slot.{Slot}
 use Rattle.tables.specs.Tables.{none, found, get, without, slotOf}
 use Rattle.words.specs.Words.{headerFrom}
@@ -14,7 +15,7 @@ use Rattle.places.proofs.Pastes.{length-part}
 use Rattle.judging.specs.Held.{Held}
 use Rattle.held.specs.declared.Accumulator.{Accumulator}
 use Rattle.held.specs.Memory.{Memory, bitsOf, sizeOf, sizeAll, heldAt}
-use Rattle.held.specs.Steps.{outputShort, handed, refuses, nothingHeld, taken, retired}
+use Rattle.held.specs.Steps.{handed, refuses, nothingHeld, taken, retired}
 use Rattle.held.specs.Calls.{heldBy}
 use Rattle.held.proofs.Holding.{messageAt, kept}
 use Rattle.held.proofs.Keeping.{without-kept}

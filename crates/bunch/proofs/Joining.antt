@@ -1,11 +1,12 @@
 -- A fragment past its payload's tests: what is shown and left, whatever the channel holds.
-use Prim.Native.Nat.{ℕ, _+_, _*_, _≤_, _<_}
+use Prim.Native.Nat.{ℕ, _*_, _≤_, _<_}
 use mathlib.Core.Path.{_≡_, refl}
 use mathlib.Core.Bool.{Bool, true, false, cond}
 use mathlib.Core.List.{List, [], _∷_, _++_, map}
 use native.Mathlib.Omega.{arith}
 use lib.ListN.{length, take}
 use borrow.Author.Tests.{lt-ltb, le-ltb}
+use Rattle.window.specs.Refusals.{payloadTooLong, payloadShort, outputShort}
 use Rattle.tables.specs.declared.Slot.{Slot}
 use Rattle.tables.specs.Tables.{Found, none, found, get, put, slotOf}
 use Rattle.places.specs.Bytes.{pasted, part, bytesOf, payloadBytes}
@@ -23,7 +24,7 @@ use Rattle.judging.proofs.Judged.{met-left}
 use Rattle.held.specs.declared.Accumulator.{Accumulator}
 use Rattle.held.specs.Memory.{Memory, State}
 use Rattle.held.specs.State.{Kept}
-use Rattle.held.specs.Steps.{payloadTooLong, payloadShort, outputShort, Answer, judged, toldAll, refuses, showing, added, adding, locally, full, over, holding, local}
+use Rattle.held.specs.Steps.{Answer, judged, toldAll, refuses, showing, added, adding, locally, full, over, holding, local}
 use Rattle.held.specs.Calls.{heldBy, limitsOf}
 use Rattle.held.proofs.Holding.{kept}
 use Rattle.held.proofs.Keeping.{without-kept}

@@ -1,14 +1,14 @@
 -- What the calls answer, in the paper's terms.
 use Prim.Native.Nat.{ℕ}
-use mathlib.Core.List.{List, [], _∷_, map}
-use Rattle.window.specs.Refusals.{Refusal}
+use mathlib.Core.List.{List, map}
+use Rattle.window.specs.Refusals.{Refusal, unfit, unsound, payloadTooLong, payloadShort, outputShort, tooFewPlaces}
 use Rattle.judging.specs.declared.Displaced as By-value
 use Rattle.judging.specs.declared.PartialDiscardCause.{PartialDiscardCause}
 use Rattle.judging.specs.Standings.{ofDisplacement}
 use Rattle.held.specs.declared.Accumulator.{Accumulator}
 use Rattle.held.specs.Memory.{Memory}
-use Rattle.held.specs.Steps.{payloadTooLong, payloadShort, outputShort, Told, Answer, refused, judged, handed, nothing}
-use Rattle.held.specs.Calls.{unsound, Reply}
+use Rattle.held.specs.Steps.{Told, Answer, refused, judged, handed, nothing}
+use Rattle.held.specs.Calls.{Reply}
 use Rattle.bunch.specs.declared.BunchError.{BunchError}
 use Rattle.bunch.specs.declared.Handed.{Handed}
 use Rattle.bunch.specs.declared.Taken.{Taken}
@@ -17,14 +17,6 @@ use Rattle.bunch.specs.declared.Added.{Added}
 use Rattle.bunch.specs.declared.inner.handing.Given.{Given}
 use Rattle.bunch.specs.declared.inner.joining.Outcome.{Outcome}
 
--- "9+ opening limits or lent room unfit: nothing"
-unfoldable pub unfit : Refusal
-unfit = record { number = 9; returns = [] }
-
--- "14+ record list full: … draining, places needed"
-unfoldable pub listFull : ℕ → Refusal
-listFull places = record { number = 14; returns = places ∷ [] }
-
 -- the paper's number and values for each case
 abbrev pub errorPaper : BunchError → Refusal
 errorPaper BunchError.Unfit = unfit
@@ -32,7 +24,7 @@ errorPaper BunchError.Unsound = unsound
 errorPaper (BunchError.PayloadTooLong count) = payloadTooLong count
 errorPaper (BunchError.PayloadShort count) = payloadShort count
 errorPaper (BunchError.OutputShort bytes) = outputShort bytes
-errorPaper (BunchError.ListFull places) = listFull places
+errorPaper (BunchError.ListFull places) = tooFewPlaces places
 
 abbrev pub ofHanded : Handed → Answer
 ofHanded (Handed.Message header bits) = handed (record { header = header; bits = bits })

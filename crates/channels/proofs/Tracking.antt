@@ -6,7 +6,7 @@ use native.Mathlib.Omega.{arith}
 use lib.ListN.{length, getD, set, take, length-set}
 use lib.Seq.{length-take-le, getD-take}
 use Rattle.tables.specs.declared.Slot.{Slot}
-use Rattle.tables.specs.Columns.{laid, insertedAt, removedAt, beside}
+use Rattle.tables.specs.Columns.{insertedAt, removedAt, beside}
 use Rattle.tables.specs.Tables.{Table, none, found, get, put, without, channels, values, slotOf}
 use Rattle.tables.proofs.Columns.{length-inserted, length-removed, inserted-beside, removed-beside, set-beside, length-beside, getD-beside, beside-first, beside-second}
 use Rattle.tables.proofs.Join.{at-get, free-get, free-without, at-live, free-live}

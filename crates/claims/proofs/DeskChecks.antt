@@ -2,13 +2,13 @@
 use mathlib.Core.Path.{refl}
 use lib.Count.{leadingZeros}
 use Rattle.bits.specs.Bits.{bitAt, bitsAt}
-use Rattle.window.specs.Refusals.{endless, tooLarge, zeroMaximum}
+use Rattle.window.specs.Refusals.{endless, tooLarge, zeroMaximum, unresolved}
 use Rattle.window.specs.Parse.{_>>=_, _>>_, give, refuse, refuseIf, readIf, place}
 use Rattle.window.specs.Reads.{dataFits, windowFits, cursorFits, sound, need, taken, bits, packedFrom, packed, log2, serialized, readPacked, readSerialized}
 use Rattle.window.specs.Reads.{bit, readBit}
 use Rattle.packet.specs.Packet.{dataBits, nextBunch}
 use Rattle.field.specs.Records.{remaining, payload, counted, repLayout, call, classNetCache}
-use Rattle.field.specs.Walks.{unresolved, walk, parseRepLayout, parseClassNetCache}
+use Rattle.field.specs.Walks.{walk, parseRepLayout, parseClassNetCache}
 use Rattle.claims.specs.DeskChecks.{deskChecks, Hold}
 
 pub desk-checks : Hold deskChecks

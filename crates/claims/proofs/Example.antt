@@ -14,7 +14,7 @@ use Rattle.types.specs.declared.RawBunchHeader.{RawBunchHeader}
 use Rattle.writer.specs.Bits.{bitsOf, bitsFrom, onlyIf, packedUpTo, packedBits, serializedBits, putBit, put}
 use Rattle.writer.specs.Header.{fieldsOf, headerBits, bunchBits, writable}
 use Rattle.writer.specs.Answers.{added, writeBunch, closePacket}
-use Rattle.claims.specs.RoundTrip.{Handed, writes}
+use Rattle.claims.specs.RoundTrip.{writes}
 
 -- a header of a channel, with R P I F or none of them
 abbrev header : ℕ → Bool → RawBunchHeader

@@ -5,15 +5,14 @@ use mathlib.Core.Bool.{Bool, true, false, cond}
 use mathlib.Core.List.{List}
 use lib.ListN.{length, take}
 use borrow.Author.Tests.{lt-ltb, le-ltb}
+use Rattle.window.specs.Refusals.{unsound, outputShort, tooFewPlaces}
 use Rattle.held.specs.declared.Accumulator.{Accumulator}
 use Rattle.held.specs.declared.inner.Checked.{Checked}
 use Rattle.held.specs.Memory.{Memory, State, sumOf, bytesAll}
 use Rattle.held.specs.Sound.{sound}
 use Rattle.held.specs.State.{Stands}
-use Rattle.held.specs.Steps.{outputShort}
-use Rattle.held.specs.Calls.{unsound, heldBy, tested}
+use Rattle.held.specs.Calls.{heldBy, tested}
 use Rattle.held.proofs.Holding.{places-are, kept}
-use Rattle.bunch.specs.Answers.{listFull}
 use Rattle.draining.specs.Draining.{unfinished, refuses, lists, drained}
 use Rattle.draining.specs.Shown.{shownCount, shownSize}
 use Rattle.draining.proofs.Unfinished.{counts-shown, sizes-shown}
@@ -56,7 +55,7 @@ module _ (a : Accumulator) (m : Memory) where
       thirteen h = rw (s, lt-ltb (length output) (length (bytesAll u)) h)
 
       module _ (bytes-fit : length (bytesAll u) ≤ length output) where
-        pub fourteen : length list < length u → refuses (listFull (length u)) a output list ≡ drained a m output list
+        pub fourteen : length list < length u → refuses (tooFewPlaces (length u)) a output list ≡ drained a m output list
         unfolding drained
         fourteen h = rw (s, le-ltb (length output) (length (bytesAll u)) bytes-fit, lt-ltb (length list) (length u) h)
 

@@ -5,18 +5,15 @@ use mathlib.Core.Bool.{cond}
 use mathlib.Core.List.{List}
 use lib.Dec.{eqb}
 use lib.ListN.{getD}
-use Rattle.window.specs.Refusals.{Refusal}
+use Rattle.window.specs.Refusals.{Refusal, unfit, unsound, payloadTooLong, payloadShort, outputShort, tooFewPlaces}
 use Rattle.window.specs.Parse.{Result, value, refusal}
 use Rattle.held.specs.declared.Accumulator.{Accumulator}
-use Rattle.held.specs.Steps.{payloadTooLong, payloadShort, outputShort}
-use Rattle.held.specs.Calls.{unsound}
 use Rattle.bunch.specs.declared.BunchError.{BunchError}
 use Rattle.draining.specs.declared.Drain.{Drain}
 use Rattle.draining.specs.declared.Emptied.{Emptied}
 use Rattle.draining.specs.declared.Opened.{Opened}
-use Rattle.bunch.specs.Answers.{unfit}
 use Rattle.draining.specs.Opening.{ofOpened}
-use Rattle.bunch.specs.Answers.{listFull, errorPaper}
+use Rattle.bunch.specs.Answers.{errorPaper}
 use Rattle.draining.specs.Draining.{Reply, drainAnswer, ofEmptied}
 
 -- a refusal by its number and what it returns
@@ -29,7 +26,7 @@ unbunch r =
     (cond (eqb (r .number) 12) (BunchError.PayloadShort n) (cond (eqb (r .number) 13) (BunchError.OutputShort n) (BunchError.ListFull n)))))
 
 unbunch-paper : (e : BunchError) → unbunch (errorPaper e) ≡ e
-unfolding unbunch unfit unsound payloadTooLong payloadShort outputShort listFull
+unfolding unbunch unfit unsound payloadTooLong payloadShort outputShort tooFewPlaces
 unbunch-paper BunchError.Unfit = refl
 unbunch-paper BunchError.Unsound = refl
 unbunch-paper (BunchError.PayloadTooLong n) = refl

@@ -7,7 +7,7 @@ use native.Mathlib.Omega.{arith}
 use lib.Dec.{ltb}
 use lib.ListN.{length}
 use borrow.Author.Tests.{lt-ltb}
-use Rattle.window.specs.Refusals.{Refusal}
+use Rattle.window.specs.Refusals.{Refusal, unfit, unsound, outputShort, tooFewPlaces}
 use Rattle.window.specs.Parse.{value, refusal}
 use Rattle.tables.specs.Columns.{laid, above, ascending}
 use Rattle.tables.specs.Tables.{channels}
@@ -16,13 +16,10 @@ use Rattle.places.specs.Packed.{joined}
 use Rattle.held.specs.declared.Accumulator.{Accumulator}
 use Rattle.held.specs.Memory.{Memory, State, bytesAll, laidIn, total}
 use Rattle.held.specs.Sound.{fit, sound}
-use Rattle.held.specs.Steps.{outputShort}
-use Rattle.held.specs.Calls.{unsound, heldBy, counting}
+use Rattle.held.specs.Calls.{heldBy, counting}
 use Rattle.held.proofs.Soundness.{stands, fits}
 use Rattle.held.proofs.Laying.{empty-held, empty-sound}
-use Rattle.bunch.specs.Answers.{unfit}
 use Rattle.draining.specs.Opening.{holdingNothing, opened}
-use Rattle.bunch.specs.Answers.{listFull}
 use Rattle.draining.specs.Draining.{unfinished, Reply, refuses, lists, drained}
 
 -- ## Opening
@@ -79,7 +76,7 @@ module _ (a : Accumulator) (m : Memory) (output : List ℕ) (list : List (List �
   drained-case P refusing done = go (sound a m) refl (ltb (length output) (length (bytesAll u))) (ltb (length list) (length u))
     where
       go : (b : Bool) → sound a m ≡ b → (short full : Bool)
-          → P (cond b (cond short (refuses (outputShort (length (bytesAll u))) a output list) (cond full (refuses (listFull (length u)) a output list) (lists u a output list))) (refuses unsound a output list))
+          → P (cond b (cond short (refuses (outputShort (length (bytesAll u))) a output list) (cond full (refuses (tooFewPlaces (length u)) a output list) (lists u a output list))) (refuses unsound a output list))
       go true s true full = refusing _
       go true s false true = refusing _
       go true s false false = done s

@@ -4,16 +4,15 @@ use mathlib.Core.Bool.{cond}
 use mathlib.Core.List.{List, [], _∷_, map}
 use lib.Dec.{ltb}
 use lib.ListN.{length}
-use Rattle.window.specs.Refusals.{Refusal}
+use Rattle.window.specs.Refusals.{Refusal, unsound, outputShort, tooFewPlaces}
 use Rattle.window.specs.Parse.{Result, value, refusal}
 use Rattle.places.specs.Bytes.{pasted}
 use Rattle.judging.specs.Held.{Held}
 use Rattle.held.specs.declared.Accumulator.{Accumulator}
 use Rattle.held.specs.Memory.{Memory, State, bytesAll}
 use Rattle.held.specs.Sound.{sound}
-use Rattle.held.specs.Steps.{outputShort}
-use Rattle.held.specs.Calls.{unsound, heldBy, counting}
-use Rattle.bunch.specs.Answers.{listFull, errorPaper}
+use Rattle.held.specs.Calls.{heldBy, counting}
+use Rattle.bunch.specs.Answers.{errorPaper}
 use Rattle.draining.specs.declared.Drain.{Drain}
 use Rattle.draining.specs.declared.Emptied.{Emptied}
 
@@ -50,7 +49,7 @@ drained a m output list =
     let u = unfinished (heldBy a m) in
     cond (sound a m)
     (cond (ltb (length output) (length (bytesAll u))) (refuses (outputShort (length (bytesAll u))) a output list)
-    (cond (ltb (length list) (length u)) (refuses (listFull (length u)) a output list) (lists u a output list)))
+    (cond (ltb (length list) (length u)) (refuses (tooFewPlaces (length u)) a output list) (lists u a output list)))
     (refuses unsound a output list)
 
 abbrev pub drainAnswer : Drain → Result ℕ

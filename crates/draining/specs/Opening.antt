@@ -1,11 +1,11 @@
 -- Opening the accumulator: "The accumulator's opening gives 9 for nothing else."
 use Prim.Native.Nat.{ℕ}
 use mathlib.Core.Bool.{cond}
+use Rattle.window.specs.Refusals.{unfit}
 use Rattle.window.specs.Parse.{Result, value, refusal}
 use Rattle.held.specs.declared.Accumulator.{Accumulator}
 use Rattle.held.specs.Memory.{Memory}
 use Rattle.held.specs.Sound.{fit}
-use Rattle.bunch.specs.Answers.{unfit}
 use Rattle.draining.specs.declared.Opened.{Opened}
 
 abbrev pub ofOpened : Opened → Result Accumulator

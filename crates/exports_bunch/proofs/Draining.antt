@@ -5,7 +5,7 @@ use mathlib.Core.Bool.{Bool, true, false}
 use mathlib.Core.List.{List, [], _∷_}
 use lib.ListN.{getD}
 use Rattle.window.specs.Refusals.{Refusal}
-use Rattle.window.specs.Parse.{Result, value, refusal}
+use Rattle.window.specs.Parse.{value, refusal}
 use Rattle.held.specs.declared.Accumulator.{Accumulator}
 use Rattle.held.specs.Memory.{Memory}
 use Rattle.held.specs.Sound.{sound}

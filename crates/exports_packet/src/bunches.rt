@@ -1,9 +1,7 @@
 // A packet reader's answers as words.
 ghost use mathlib.Core.Path.{_≡_};
-ghost use mathlib.Core.List.{[], _∷_, _++_};
+ghost use mathlib.Core.List.{_∷_, _++_};
 ghost use lib.ListN.{getD};
-ghost use mir.Syntax.{w32};
-ghost use mir.Val.{ofZ};
 ghost use Rattle.packet.specs.Memory.{Memory};
 ghost use Rattle.packet.specs.Answers.{packetPaper, ofOpened, ofRead};
 ghost use Rattle.answers.specs.Words.{window};

@@ -1,5 +1,5 @@
 -- The count that bounds a walk's recursion is not part of its meaning: any that is above the bits left gives the same walk.
-use mathlib.Core.Path.{_≡_, refl, sym, _∙_}
+use mathlib.Core.Path.{_≡_, refl}
 use mathlib.Core.List.{List, [], _∷_}
 use Prim.Native.Nat.{ℕ, zero, suc, _≤_, _<_}
 use native.Mathlib.Omega.{arith}
@@ -7,8 +7,8 @@ use Rattle.window.specs.declared.Window.{Window}
 use Rattle.window.specs.Parse.{Answer, got, refused}
 use Rattle.field.specs.declared.inner.Kind.{Kind}
 use Rattle.field.specs.Records.{Looked, ends, abandons, finds, bitsLeft, look}
-use Rattle.field.specs.Walks.{Walked, numbers, after, onward, walk, walked}
-use Rattle.field.proofs.Moves.{On, moves-look}
+use Rattle.field.specs.Walks.{onward, walk}
+use Rattle.field.proofs.Moves.{moves-look}
 
 module _ (k : Kind) (d : List ℕ) where
   abbrev Agree : ℕ → ℕ → Type 0

@@ -7,7 +7,7 @@ use lib.Dec.{eqb}
 use Rattle.window.specs.declared.Window.{Window}
 use Rattle.window.specs.declared.BitError.{BitError}
 use Rattle.window.specs.declared.BitError.the-variants.{Eof, MalformedIntPacked, IntPackedOverflow, InvalidSerializedIntMax, InvalidBitLength, InvalidWidth, DataTooLong}
-use Rattle.window.specs.Refusals.{Refusal, paper, tooFewBits, endless, tooLarge, zeroMaximum, beyond, tooWide, tooLong}
+use Rattle.window.specs.Refusals.{Refusal, paper, tooFewBits, endless, tooLarge, zeroMaximum, beyond, tooWide, tooLong, listFull, unresolved}
 use Rattle.window.specs.Parse.{Answer, got, refused}
 use Rattle.bitio.proofs.Determined.{placeAt, unpaper, unpaper-paper}
 use Rattle.field.specs.declared.FieldError.{FieldError}
@@ -31,7 +31,7 @@ low (InvalidWidth w) = refl
 low (DataTooLong l) = refl
 
 unfield-paper : (e : FieldError) → unfield (fieldPaper e) ≡ e
-unfolding unfield W.listFull W.unresolved
+unfolding unfield listFull unresolved
 unfield-paper (FieldError.Bits e) = low e ∙ ap FieldError.Bits (unpaper-paper e)
 unfield-paper (FieldError.RecordListFull p) = refl
 unfield-paper FieldError.UnresolvedFunctionCount = refl

@@ -6,11 +6,11 @@ use native.Mathlib.Omega.{arith}
 use lib.ListN.{length, set, take, drop, length-set, take-append-drop, drop-of-length-le}
 use lib.Seq.{drop-cons, append-snoc, drop-set-lt, take-suc-set}
 use Rattle.window.specs.declared.Window.{Window}
-use Rattle.window.specs.Refusals.{placeOf}
+use Rattle.window.specs.Refusals.{placeOf, listFull}
 use Rattle.window.specs.Parse.{Answer, got, refused, Parse}
 use Rattle.window.specs.Sound.{Sound}
 use Rattle.field.specs.Records.{Found, Looked, finds, bitsLeft}
-use Rattle.field.specs.Walks.{Stop, Walked, numbers, listFull, stopped, after, onward, walk, walked}
+use Rattle.field.specs.Walks.{Stop, Walked, numbers, stopped, after, onward, walk, walked}
 use Rattle.field.proofs.Moves.{On}
 
 pub on-less : {d : List ℕ} {w u : Window} → On 8 w u → Sound d u → bitsLeft u < bitsLeft w

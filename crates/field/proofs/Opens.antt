@@ -6,14 +6,14 @@ use Prim.Native.Nat.{ℕ}
 use borrow.Author.Tests.{eq-eqb, ne-eqb}
 use lib.Dec.{eqb}
 use Rattle.window.specs.declared.Window.{Window}
-use Rattle.window.specs.Refusals.{Refusal}
+use Rattle.window.specs.Refusals.{Refusal, unresolved}
 use Rattle.window.specs.Parse.{got, refused, _>>_, give, refuse, refuseIf}
 use Rattle.window.specs.Reads.{sound, bit, readBit}
 use Rattle.window.specs.Sound.{Sound}
 use Rattle.bitio.proofs.Tests.{passes}
 use Rattle.window.proofs.Keeps.{sound-stays, Keeps, keeps-then, keeps-give, keeps-bits}
 use Rattle.field.specs.Records.{repLayout, classNetCache}
-use Rattle.field.specs.Walks.{stopped, walked, settle, unresolved, parseRepLayout, parseClassNetCache}
+use Rattle.field.specs.Walks.{stopped, walked, settle, parseRepLayout, parseClassNetCache}
 
 keeps-bit : Keeps bit
 unfolding bit

@@ -2,7 +2,7 @@
 use Prim.Native.Nat.{ℕ}
 use mathlib.Core.List.{List}
 use Rattle.window.specs.declared.Window.{Window}
-use Rattle.window.specs.Refusals.{Refusal, paper}
+use Rattle.window.specs.Refusals.{Refusal, paper, listFull, unresolved}
 use Rattle.window.specs.Parse.{Answer, got, refused}
 use Rattle.field.specs.declared.FieldError.{FieldError}
 use Rattle.field.specs.declared.Stop.{Stop}
@@ -12,8 +12,8 @@ use Rattle.field.specs.Walks as W
 -- the paper's number and values for each case
 abbrev pub fieldPaper : FieldError → Refusal
 fieldPaper (FieldError.Bits e) = paper e
-fieldPaper (FieldError.RecordListFull p) = W.listFull p
-fieldPaper FieldError.UnresolvedFunctionCount = W.unresolved
+fieldPaper (FieldError.RecordListFull p) = listFull p
+fieldPaper FieldError.UnresolvedFunctionCount = unresolved
 
 abbrev pub stopAnswer : Stop → Window → Answer W.Stop
 stopAnswer Stop.Ended w = got W.ended w

@@ -4,8 +4,7 @@ use mathlib.Core.Bool.{Bool, true, false}
 use mathlib.Core.List.{List, [], _∷_}
 use lib.Dec.{eqb, leb}
 use Rattle.window.specs.declared.Window.{Window}
-use Rattle.window.specs.declared.Place.{Place}
-use Rattle.window.specs.Refusals.{Refusal, placeOf, placed}
+use Rattle.window.specs.Refusals.{placeOf, listFull, unresolved}
 use Rattle.window.specs.Parse.{Answer, got, refused, Parse, _>>_, refuseIf}
 use Rattle.window.specs.Reads.{sound, readBit}
 use Rattle.field.specs.Records.{Found, Looked, ends, abandons, finds, bitsLeft, repLayout, classNetCache}
@@ -25,10 +24,6 @@ pub record Walked : Type 0 where
 -- "handle, bit count and its payload's start, counted both ways"
 abbrev pub numbers : Found → List ℕ
 numbers r = r .handle ∷ r .bits ∷ r .inWindow ∷ r .inPacket ∷ []
-
--- "14+ record list full: cursor at that record's start"
-unfoldable pub listFull : Place → Refusal
-listFull p = record { number = 14; returns = placed p }
 
 abbrev pub atEnd : Window → Window
 atEnd w = record { start = w .start; position = record { 0 = w .length }; length = w .length }
@@ -60,10 +55,6 @@ walked look d ps w = walk look (suc (bitsLeft w)) d ps w
 abbrev pub from : {A : Type 0} → List (List ℕ) → Answer A → (Window → Walked) → Walked
 from ps (refused e u) on = stopped ps (refused e u)
 from ps (got a u) on = on u
-
--- "15 function count 0: nothing"
-unfoldable pub unresolved : Refusal
-unresolved = record { number = 15; returns = [] }
 
 unfoldable pub parseClassNetCache : ℕ → List ℕ → List (List ℕ) → Window → Walked
 parseClassNetCache count d ps w = from ps ((sound >> refuseIf (eqb count 0) unresolved) d w) (walked (classNetCache count) d ps)

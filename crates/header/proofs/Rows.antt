@@ -7,10 +7,8 @@ use Rattle.window.specs.declared.Window.{Window}
 use Rattle.window.specs.Parse.{Answer, got, refused, Parse, andThen, _>>=_, give, readIf}
 use Rattle.header.specs.declared.BunchFields.{BunchFields}
 use Rattle.header.specs.declared.inner.Row.{Row}
-use Rattle.header.specs.declared.inner.FlagTaken.{FlagTaken}
-use Rattle.header.specs.declared.inner.NumberTaken.{NumberTaken}
 use Rattle.header.specs.Header.{Header, unreadable, readable, headerOf}
-use Rattle.header.specs.Row.{settled, taken, flagOf, numberOf}
+use Rattle.header.specs.Row.{settled, taken}
 
 -- a read that is not wanted, or after the row's end, takes nothing; any other is the parse's
 module _ {A : Type 0} (without : A) (p : Parse A) (d : List ℕ) where

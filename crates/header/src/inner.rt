@@ -1,7 +1,7 @@
 // The header's reads in a row: one that has stopped reads nothing more.
 ghost use mathlib.Core.Path.{_≡_};
 ghost use mathlib.Core.Bool.{false};
-ghost use Prim.Native.Nat.{_≤_, _<_};
+ghost use Prim.Native.Nat.{_<_};
 ghost use Rattle.window.specs.Parse.{readIf};
 ghost use Rattle.window.specs.Answers.{ofU32};
 ghost use Rattle.window.specs.Reads.{bit, packed, serialized};

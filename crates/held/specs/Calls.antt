@@ -1,18 +1,14 @@
 -- A call on the lent memory, in one form for all: unsound memory is refused; else the channel's step, laid in the memory.
 use Prim.Native.Nat.{ℕ}
 use mathlib.Core.Bool.{cond}
-use mathlib.Core.List.{List, []}
+use mathlib.Core.List.{List}
 use lib.ListN.{length}
-use Rattle.window.specs.Refusals.{Refusal}
+use Rattle.window.specs.Refusals.{unsound}
 use Rattle.held.specs.declared.Accumulator.{Accumulator}
 use Rattle.held.specs.declared.inner.Checked.{Checked}
 use Rattle.held.specs.Memory.{Memory, State, stateOf, bytesAll, laidIn, total}
 use Rattle.held.specs.Sound.{sound}
 use Rattle.held.specs.Steps.{Act, Answer, refused, Limits, local, after}
-
--- "10+ lent state not sound: nothing"
-unfoldable pub unsound : Refusal
-unsound = record { number = 10; returns = [] }
 
 abbrev pub limitsOf : Accumulator → Limits
 limitsOf a = record { active = a .«max_active»; buffered = a .«max_buffered_bits» }

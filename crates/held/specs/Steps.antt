@@ -1,10 +1,10 @@
 -- One call on one channel: what it answers and what the channel then holds, as a function of what it held.
 use Prim.Native.Nat.{ℕ, _+_, _*_}
 use mathlib.Core.Bool.{Bool, true, false, _&&_, cond}
-use mathlib.Core.List.{List, [], _∷_, map}
+use mathlib.Core.List.{List, map}
 use lib.Dec.{leb, ltb}
 use lib.ListN.{length}
-use Rattle.window.specs.Refusals.{Refusal}
+use Rattle.window.specs.Refusals.{Refusal, payloadTooLong, payloadShort, outputShort}
 use Rattle.types.specs.declared.RawBunchHeader.{RawBunchHeader}
 use Rattle.tables.specs.Tables.{Found, none, found, get, put, without}
 use Rattle.words.specs.Words.{headerFrom}
@@ -16,18 +16,6 @@ use Rattle.judging.specs.Fates.{fate}
 use Rattle.judging.specs.Messages.{heldAfter, displaced, bytesOfAll}
 use Rattle.judging.specs.Results.{result}
 use Rattle.held.specs.Memory.{State, total}
-
--- "11+ payload above 16,383 bits: count"
-unfoldable pub payloadTooLong : ℕ → Refusal
-payloadTooLong count = record { number = 11; returns = count ∷ [] }
-
--- "12+ payload data shorter than its bits: count"
-unfoldable pub payloadShort : ℕ → Refusal
-payloadShort count = record { number = 12; returns = count ∷ [] }
-
--- "13+ output bytes too few: bytes needed"
-unfoldable pub outputShort : ℕ → Refusal
-outputShort bytes = record { number = 13; returns = bytes ∷ [] }
 
 -- what is asked of a channel
 pub data Act : Type 0 where

@@ -7,7 +7,8 @@ use native.Mathlib.Omega.{arith}
 use lib.ListN.{length}
 use borrow.Author.Tests.{le-ltb}
 use Rattle.tables.specs.Tables.{Found, none, found, get}
-use Rattle.words.proofs.Back.{InRange, back}
+use Rattle.words.specs.Range.{InRange}
+use Rattle.words.proofs.Back.{back}
 use Rattle.places.specs.Bytes.{pasted}
 use Rattle.judging.specs.Held.{Held, Fragment}
 use Rattle.held.specs.Memory.{State}

@@ -12,7 +12,7 @@ use Rattle.tables.specs.Columns.{laid, beside}
 use Rattle.tables.specs.Tables.{get}
 use Rattle.channels.specs.Partials.{continues}
 use Rattle.channels.specs.Sequences.{following}
-use Rattle.words.proofs.Back.{InRange}
+use Rattle.words.specs.Range.{InRange}
 use Rattle.places.specs.Bytes.{pasted, payloadBytes}
 use Rattle.judging.specs.Held.{Fragment}
 use Rattle.judging.specs.Fates.{follows}

@@ -11,7 +11,7 @@ use Rattle.held.specs.declared.Accumulator.{Accumulator}
 use Rattle.held.specs.Memory.{Memory}
 use Rattle.held.specs.Steps.{Act, adding, taking, retiring, Answer}
 use Rattle.held.specs.Calls.{heldBy, Reply, called}
-use Rattle.lasting.proofs.Lasting.{Entered}
+use Rattle.lasting.specs.Entered.{Entered}
 
 -- "Give each channel its own list of calls: add a fragment, take a finished message, retire", each with "the same arguments and the
 -- same other lent room": the payload is the fragment's, the output stands beside it

@@ -7,14 +7,14 @@ use native.Mathlib.Omega.{arith}
 use lib.Dec.{ltb}
 use lib.ListN.{length}
 use borrow.Author.Tests.{ltb-false}
-use Rattle.window.specs.Refusals.{Refusal}
+use Rattle.window.specs.Refusals.{Refusal, payloadTooLong, payloadShort, outputShort}
 use Rattle.tables.specs.Tables.{Found, none, found, get}
 use Rattle.places.specs.Bytes.{pasted, bytesOf}
 use Rattle.judging.specs.Held.{Held, Fragment}
 use Rattle.judging.specs.Messages.{heldAfter, displaced, bytesOfAll}
 use Rattle.judging.specs.Results.{result}
 use Rattle.held.specs.Memory.{State}
-use Rattle.held.specs.Steps.{Act, adding, taking, retiring, Answer, judged, handed, Local, Limits, told, toldAll, refuses, outputShort, payloadTooLong, payloadShort, showing, nothingHeld, added, handing, taken, retired, locally, local}
+use Rattle.held.specs.Steps.{Act, adding, taking, retiring, Answer, judged, handed, Local, Limits, told, toldAll, refuses, showing, nothingHeld, added, handing, taken, retired, locally, local}
 use Rattle.lasting.proofs.Weighing.{met}
 
 -- bytes shown in the output, which has room

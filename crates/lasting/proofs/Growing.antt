@@ -14,7 +14,7 @@ use borrow.Author.Tests.{not-true}
 use Rattle.types.specs.declared.PartialSequenceKind.{PartialSequenceKind}
 use Rattle.types.specs.declared.RawBunchHeader.{RawBunchHeader}
 use Rattle.tables.specs.Tables.{Found, none, found}
-use Rattle.words.proofs.Back.{InRange}
+use Rattle.words.specs.Range.{InRange}
 use Rattle.places.specs.Bytes.{bytesOf, payloadBytes}
 use Rattle.places.proofs.Payloads.{whole-bytes, with-rest, length-payload}
 use Rattle.judging.specs.Held.{Held, Fragment}

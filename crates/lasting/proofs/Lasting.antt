@@ -6,7 +6,7 @@ use mathlib.Core.List.{List}
 use native.Mathlib.Omega.{arith}
 use lib.ListN.{length}
 use Rattle.tables.specs.Tables.{Found, none, found, get, without}
-use Rattle.words.proofs.Back.{InRange}
+use Rattle.words.specs.Range.{InRange}
 use Rattle.places.specs.Bytes.{bytesOf}
 use Rattle.judging.specs.Held.{Held, Fragment}
 use Rattle.judging.specs.Messages.{heldAfter, bitsHeld}
@@ -14,23 +14,18 @@ use Rattle.held.specs.declared.Accumulator.{Accumulator}
 use Rattle.held.specs.Memory.{Memory, State, total}
 use Rattle.held.specs.Sound.{fit, sound}
 use Rattle.held.specs.State.{Good, Kept}
-use Rattle.held.specs.Steps.{Act, adding, taking, retiring, holding, local, after}
+use Rattle.held.specs.Steps.{Act, adding, holding, local, after}
 use Rattle.held.specs.Calls.{limitsOf, heldBy, Reply, called}
 use Rattle.held.proofs.Soundness.{stands, fits}
 use Rattle.held.proofs.Holding as H
 use Rattle.held.proofs.Laying.{state-back, laid-sound}
 use Rattle.held.proofs.Keeping.{good-held, without-kept, put-kept}
+use Rattle.lasting.specs.Entered.{Entered}
 use Rattle.lasting.proofs.Growing.{GoodFound, good-after}
 use Rattle.lasting.proofs.Weighing.{met, total-parts, finds-place, within-buffered}
 use Rattle.lasting.proofs.Cases.{local-case}
 
 -- ## The state stays within the limits
-
--- a fragment's header has numbers within their types
-abbrev pub Entered : Act → Type 0
-Entered (adding f) = InRange (f .header)
-Entered taking = Unit {0}
-Entered retiring = Unit {0}
 
 module _ (a : Accumulator) (s : State) (k : Kept a s) (c : ℕ) where
   -- what the channel may hold

@@ -3,10 +3,10 @@ use Prim.Native.Nat.{ℕ, _+_}
 use mathlib.Core.Path.{_≡_, refl, ap, _∙_}
 use mathlib.Core.Bool.{Bool, true, false}
 use mathlib.Core.List.{List}
-use Rattle.window.specs.Refusals.{Refusal}
+use Rattle.window.specs.Refusals.{Refusal, unsound}
 use Rattle.tables.specs.Columns.{ascending}
 use Rattle.tables.specs.Tables.{Found, none, get, channels}
-use Rattle.words.proofs.Back.{InRange}
+use Rattle.words.specs.Range.{InRange}
 use Rattle.judging.specs.declared.PartialBunchResult.{PartialBunchResult}
 use Rattle.judging.specs.declared.PartialDiscardCause.{PartialDiscardCause}
 use Rattle.judging.specs.declared.Fate.{Fate}
@@ -18,7 +18,7 @@ use Rattle.held.specs.declared.Accumulator.{Accumulator}
 use Rattle.held.specs.Memory.{Memory, State}
 use Rattle.held.specs.Sound.{sound}
 use Rattle.held.specs.Steps.{Act, adding, refused, judged, Told, Local, Limits, full, over, local, after}
-use Rattle.held.specs.Calls.{unsound, limitsOf, heldBy, Reply, called}
+use Rattle.held.specs.Calls.{limitsOf, heldBy, Reply, called}
 use Rattle.held.proofs.Soundness.{stands}
 use Rattle.held.proofs.Holding.{kept, same-memory, same-counts}
 use Rattle.lasting.specs.Ledger.{Exception}
@@ -26,7 +26,8 @@ use Rattle.lasting.proofs.Excepting.{excepted, exception-falls}
 use Rattle.lasting.proofs.Weighing.{met}
 use Rattle.lasting.proofs.Cases.{local-case}
 use Rattle.lasting.proofs.Single.{holding-same, get-holding, get-other}
-use Rattle.lasting.proofs.Lasting.{Entered, holds-next}
+use Rattle.lasting.specs.Entered.{Entered}
+use Rattle.lasting.proofs.Lasting.{holds-next}
 
 -- ## A step
 

@@ -1,12 +1,11 @@
 -- Digits written from the last back to the first: what is still to be written goes before what stands.
 use mathlib.Core.Path.{_≡_, refl, ap, sym, _∙_}
-use mathlib.Core.List.{List, [], _∷_, _++_}
+use mathlib.Core.List.{List}
 use Prim.Native.Nat.{ℕ, _+_, _-_, _/_, _≤_, _<_}
 use native.Mathlib.Omega.{arith}
 use lib.ListN.{length, set, length-set}
 use Rattle.lines.specs.Decimal.{lastDigit, digits, decimal}
 use Rattle.lines.specs.Lines.{written}
-use Rattle.lines.specs.Puts.{Put}
 use Rattle.lines.proofs.Digits.{no-digits, one-more, count-more, count-all}
 use Rattle.lines.proofs.Texts.{written-last}
 

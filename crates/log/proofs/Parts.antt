@@ -1,9 +1,9 @@
 -- A part of a log that stands in a buffer: a record found there is the log's, and at the log's end so are the end and a cut
 -- record. So a program may read a log of any length through a buffer that holds one record.
-use mathlib.Core.Path.{_≡_, refl, ap, ap₂, sym, _∙_}
+use mathlib.Core.Path.{_≡_, refl, ap, sym, _∙_}
 use mathlib.Core.Bool.{Bool, true, false}
-use mathlib.Core.List.{List, _∷_, _++_}
-use Prim.Native.Nat.{ℕ, _+_, _*_, _≤_, _<_}
+use mathlib.Core.List.{List, _++_}
+use Prim.Native.Nat.{ℕ, _+_, _≤_, _<_}
 use native.Mathlib.Nat.{add-zero, add-assoc}
 use native.Mathlib.Omega.{arith}
 use borrow.Author.Tests.{leb-true, leb-false, eqb-true, eqb-false}
@@ -15,7 +15,7 @@ use Rattle.bits.specs.Floats.{signed}
 use Rattle.log.specs.declared.Entry.{Entry}
 use Rattle.log.specs.Log.{lengthAt, idAt, entryAt}
 use Rattle.log.proofs.Entries.{at-end, cut-at, whole-at}
-use Rattle.log.proofs.Steps.{Within, within}
+use Rattle.log.proofs.Steps.{within}
 
 -- what stands at a place, k bytes on
 abbrev pub shifted : ℕ → Entry → Entry

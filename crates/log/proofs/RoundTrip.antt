@@ -1,7 +1,7 @@
 -- A log that is written by document 01's sentence is read back as the packets it was written of.
 use mathlib.Core.Path.{_≡_, refl, ap, sym, _∙_}
 use mathlib.Core.List.{List, [], _∷_, _++_, append-assoc}
-use Prim.Native.Nat.{ℕ, suc, _+_, _*_, _-_, _/_, _%_, _^_, _≤_, _<_}
+use Prim.Native.Nat.{ℕ, suc, _+_, _*_, _-_, _/_, _%_, _^_, _<_}
 use native.Mathlib.Nat.{add-zero}
 use native.Mathlib.Omega.{arith}
 use borrow.Author.Tests.{lt-ltb, le-ltb}
@@ -12,7 +12,7 @@ use mir.Syntax.{w32}
 use mir.Val.{SFits, ofZ}
 use Rattle.bits.specs.Floats.{signed}
 use Rattle.log.specs.declared.Entry.{Entry}
-use Rattle.log.specs.Log.{versionOf, idAt, lengthAt, entryAt, Packet, whole, Log, onward, logAt, logOf}
+use Rattle.log.specs.Log.{versionOf, idAt, lengthAt, entryAt, Packet, whole, onward, logAt, logOf}
 use Rattle.log.proofs.Entries.{at-end, whole-at}
 use Rattle.log.proofs.Steps.{steps}
 use Rattle.log.proofs.Parts.{shifted, behind, before, packet-bytes}

@@ -1,13 +1,13 @@
 -- The log from a place on is what stands there, and the log from the next place on: so `record_at` steps through it.
-use mathlib.Core.Path.{_≡_, refl, ap, sym, _∙_}
+use mathlib.Core.Path.{_≡_, refl, sym}
 use mathlib.Core.Bool.{Bool, true, false, cond}
-use mathlib.Core.List.{List, _∷_}
+use mathlib.Core.List.{List}
 use Prim.Native.Nat.{ℕ, zero, suc, _+_, _-_, _≤_, _<_}
 use native.Mathlib.Omega.{arith}
 use borrow.Author.Tests.{leb-true}
 use lib.Dec.{eqb, leb}
 use lib.IntN.{ℤ}
-use lib.ListN.{length, take, drop}
+use lib.ListN.{length}
 use Rattle.log.specs.declared.Entry.{Entry}
 use Rattle.log.specs.Log.{Log, lengthAt, idAt, entryAt, onward, logFrom, logAt}
 

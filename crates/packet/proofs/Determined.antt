@@ -1,10 +1,9 @@
 -- The calls' promises in the paper's terms determine the answer and the lent memory: no two answers of the code say the same.
-use Prim.Native.Nat.{ℕ}
 use mathlib.Core.Path.{_≡_, refl, ap, sym, _∙_}
 use mathlib.Core.Bool.{cond}
 use lib.Dec.{eqb}
 use lib.ListN.{getD}
-use Rattle.window.specs.Refusals.{Refusal, beyond}
+use Rattle.window.specs.Refusals.{Refusal, beyond, packetTooLong, unfit, unsound}
 use Rattle.window.specs.Parse.{Result, value, refusal}
 use Rattle.bitio.proofs.Determined.{determined}
 use Rattle.packet.specs.declared.PacketError.{PacketError}
@@ -14,7 +13,7 @@ use Rattle.packet.specs.declared.Reader.{Reader}
 use Rattle.packet.specs.declared.Opened.{Opened}
 use Rattle.packet.specs.Packet as P
 use Rattle.packet.specs.Memory.{Memory}
-use Rattle.packet.specs.Answers.{packetTooLong, unfit, unsound, packetPaper, Reply, bunchAnswer, ofRead, ofOpened}
+use Rattle.packet.specs.Answers.{packetPaper, Reply, bunchAnswer, ofRead, ofOpened}
 
 -- a refusal by its number and what it returns
 unpacket : Refusal → PacketError

@@ -1,7 +1,6 @@
 -- A turn from the header on: what numbering left, and the payload compared with what remains.
 use Prim.Native.Nat.{ℕ, _-_, _≤_, _<_}
-use mathlib.Core.Path.{_≡_, sym, ap, _∙_}
-use mathlib.Core.Bool.{Bool, true, false}
+use mathlib.Core.Path.{_≡_, ap}
 use mathlib.Core.List.{List}
 use lib.ListN.{length, length-map}
 use borrow.Author.Tests.{le-ltb, lt-ltb}
@@ -11,9 +10,8 @@ use Rattle.tables.proofs.Columns.{laid-twice}
 use Rattle.header.specs.declared.BunchFields.{BunchFields}
 use Rattle.channels.specs.declared.inner.sequences.Numbered as I
 use Rattle.channels.specs.Sequences.{Numbered, numbered}
-use Rattle.channels.specs.Partials.{Partial}
 use Rattle.packet.specs.Packet.{malformed, whole}
-use Rattle.channels.specs.Places.{sequencesAt, partialsAt, NumberedIn, numberedIn, sequencesLaid}
+use Rattle.channels.specs.Places.{sequencesAt, NumberedIn, numberedIn, sequencesLaid}
 use Rattle.packet.specs.Memory.{Memory, memory, channelsOf, laidIn}
 use Rattle.packet.specs.State.{State}
 use Rattle.packet.specs.Turns.{stopping, settles, finishes}

@@ -1,17 +1,16 @@
 -- A reading call leaves a state that passes the test again.
-use Prim.Native.Nat.{ℕ, _-_, _≤_}
+use Prim.Native.Nat.{ℕ, _-_}
 use mathlib.Core.Path.{_≡_, sym, _∙_, subst}
 use mathlib.Core.Bool.{Bool, true, false, cond}
 use mathlib.Core.List.{List}
 use lib.Dec.{eqb, leb, ltb}
 use lib.ListN.{length, length-map}
-use Rattle.tables.specs.Columns.{laid}
-use Rattle.tables.specs.Tables.{Table, channels, values}
+use Rattle.tables.specs.Tables.{channels, values}
 use Rattle.header.specs.declared.BunchFields.{BunchFields}
 use Rattle.header.specs.Header.{Header, unreadable, readable, headerOf, fields}
-use Rattle.channels.specs.Sequences.{Numbered, numbered}
-use Rattle.channels.specs.Partials.{Partial, Tracked, tracking}
-use Rattle.packet.specs.Packet.{Channels, Read, lastByte, dataBits, rest, ended, broken, holding, retired, retires, whole, compared, headed, nextBunch}
+use Rattle.channels.specs.Sequences.{numbered}
+use Rattle.channels.specs.Partials.{Partial, tracking}
+use Rattle.packet.specs.Packet.{Channels, Read, lastByte, dataBits, rest, holding, retired, retires, whole, headed, nextBunch}
 use Rattle.packet.specs.Memory.{Memory, channelsOf, laidIn}
 use Rattle.packet.specs.State.{State}
 use Rattle.packet.specs.declared.BunchRead.{BunchRead}

@@ -1,25 +1,23 @@
 -- What a reading call comes to, test by test, and what it leaves where no table changes.
 use Prim.Native.Nat.{ℕ, _≤_, _<_}
-use mathlib.Core.Path.{_≡_, refl, sym, ap, _∙_}
-use mathlib.Core.Bool.{Bool, true, false, cond}
+use mathlib.Core.Path.{_≡_, sym, _∙_}
+use mathlib.Core.Bool.{Bool, true, false}
 use mathlib.Core.List.{List}
 use native.Mathlib.Omega.{arith}
 use lib.ListN.{length, take}
 use lib.Seq.{length-take-le}
-use borrow.Author.Tests.{le-leb, lt-leb, le-ltb, lt-ltb, eq-eqb, ne-eqb}
+use borrow.Author.Tests.{le-leb, lt-leb, eq-eqb, ne-eqb}
 use Rattle.tables.specs.Columns.{laid, beside}
 use Rattle.tables.specs.Tables.{channels, values}
 use Rattle.tables.proofs.Columns.{laid-take, length-beside, beside-first, beside-second}
 use Rattle.tables.proofs.Held.{Holds, holds}
-use Rattle.header.specs.declared.BunchFields.{BunchFields}
 use Rattle.header.specs.Header.{Header, unreadable, readable, headerOf, fields}
 use Rattle.header.specs.declared.inner.HeaderRead.{HeaderRead}
 use Rattle.header.specs.Row.{headerRead}
 use Rattle.channels.specs.Sequences.{numbered}
-use Rattle.packet.specs.Packet.{compared, Channels, Outcome, end, malformed, Read, lastByte, dataBits, rest, ended, broken, headed, nextBunch}
+use Rattle.packet.specs.Packet.{compared, Channels, end, malformed, lastByte, dataBits, rest, ended, broken, headed, nextBunch}
 use Rattle.channels.specs.Places.{sequencesAt, partialsAt}
 use Rattle.packet.specs.Memory.{Memory, channelsOf, laidIn}
-use Rattle.channels.specs.Fits.{Fits}
 use Rattle.packet.specs.State.{State}
 use Rattle.packet.specs.Answers.{reply}
 use Rattle.packet.specs.Turns.{stopping}

@@ -3,13 +3,12 @@ use Prim.Native.Nat.{ℕ, _≤_}
 use mathlib.Core.Path.{_≡_}
 use mathlib.Core.Bool.{true, _&&_}
 use lib.Dec.{leb}
-use lib.ListN.{length, take}
+use lib.ListN.{take}
 use borrow.Author.Tests.{leb-true}
 use Rattle.tables.specs.Columns.{ascending}
 use Rattle.tables.proofs.Ascending.{both}
 use Rattle.types.specs.Types.{mostChannels}
 use Rattle.packet.specs.Memory.{Memory, fitting, fit, sound}
-use Rattle.channels.specs.Fits.{Fits}
 use Rattle.packet.specs.State.{State}
 
 pub record Rooms (limit a b c d e : ℕ) : Type 0 where

@@ -1,13 +1,13 @@
 -- What the public calls answer, in the paper's terms.
 use Prim.Native.Nat.{ℕ}
 use mathlib.Core.Bool.{cond}
-use mathlib.Core.List.{List, [], _∷_}
+use mathlib.Core.List.{List}
 use lib.Dec.{ltb}
 use lib.IntN.{ℤ}
 use lib.ListN.{length}
 use mir.Syntax.{w32}
 use mir.Val.{ofZ}
-use Rattle.window.specs.Refusals.{Refusal, beyond}
+use Rattle.window.specs.Refusals.{Refusal, beyond, packetTooLong, unfit, unsound}
 use Rattle.window.specs.Parse.{Result, value, refusal}
 use Rattle.packet.specs.declared.PacketError.{PacketError}
 use Rattle.packet.specs.declared.Bunch.{Bunch}
@@ -16,18 +16,6 @@ use Rattle.packet.specs.declared.Reader.{Reader}
 use Rattle.packet.specs.declared.Opened.{Opened}
 use Rattle.packet.specs.Packet as P
 use Rattle.packet.specs.Memory.{Memory, channelsOf, laidIn, fit, sound}
-
--- "8+ packet above 65,535 bytes: length"
-unfoldable pub packetTooLong : ℕ → Refusal
-packetTooLong length = record { number = 8; returns = length ∷ [] }
-
--- "9+ opening limits or lent room unfit: nothing"
-unfoldable pub unfit : Refusal
-unfit = record { number = 9; returns = [] }
-
--- "10+ lent state not sound: nothing"
-unfoldable pub unsound : Refusal
-unsound = record { number = 10; returns = [] }
 
 -- the paper's number and values for each case
 abbrev pub packetPaper : PacketError → Refusal

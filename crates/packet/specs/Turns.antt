@@ -4,7 +4,7 @@ use mathlib.Core.Bool.{Bool}
 use mir.Val.{boolByte}
 use Rattle.window.specs.Parse.{value}
 use Rattle.header.specs.declared.BunchFields.{BunchFields}
-use Rattle.packet.specs.Packet.{Channels, Outcome, bunch, header, payload, whole, compared}
+use Rattle.packet.specs.Packet.{Outcome, bunch, header, payload, whole, compared}
 use Rattle.channels.specs.Sequences.{numbered}
 use Rattle.channels.specs.Partials.{tracking}
 use Rattle.packet.specs.Memory.{Memory, channelsOf}

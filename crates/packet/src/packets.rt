@@ -1,6 +1,5 @@
 // The public calls: opening over lent tables, and the bunch at a cursor.
 ghost use mathlib.Core.Path.{_≡_};
-ghost use Prim.Native.Nat.{_≤_};
 ghost use lib.ListN.{length};
 ghost use Rattle.packet.specs.Memory.{Memory, memory, fitting, fit, sound};
 ghost use Rattle.packet.specs.Answers.{ofOpened, opened, ofRead, readBunch, refuses, packetPaper};

@@ -7,6 +7,7 @@ use native.Mathlib.Nat.{not-suc-le-zero, le-of-suc-le-suc}
 use native.Mathlib.Omega.{arith}
 use lib.ListN.{length, getD, set, take}
 use lib.Seq.{length-take-le}
+use Rattle.window.specs.Refusals.{unsound}
 use Rattle.tables.specs.declared.Slot.{Slot}
 use Rattle.tables.specs.Tables.{none, found, entries, slotOf}
 use Rattle.tables.proofs.Join.{at-put}
@@ -16,7 +17,7 @@ use Rattle.held.specs.Memory.{Memory, heldAt, heldIn, stateOf, bytesAll}
 use Rattle.held.specs.State.{Kept}
 use Rattle.held.specs.Steps.{Act, Answer, refused, Local, holding, local, after}
 use Rattle.held.specs.Sound.{sound}
-use Rattle.held.specs.Calls.{unsound, heldBy, tested, limitsOf, called}
+use Rattle.held.specs.Calls.{heldBy, tested, limitsOf, called}
 use Rattle.held.proofs.Soundness.{stands, passes}
 use Rattle.held.proofs.Holding.{messageAt, length-held, columns, message-at, same-memory, same-counts}
 use Rattle.held.proofs.Laying.{laid-stands, state-back}

@@ -45,7 +45,50 @@ tooWide width = record { number = 6; returns = width ∷ [] }
 unfoldable pub tooLong : ℕ → Refusal
 tooLong length = record { number = 7; returns = length ∷ [] }
 
--- the paper's number and values for each case
+-- "8+ packet above 65,535 bytes: length"
+unfoldable pub packetTooLong : ℕ → Refusal
+packetTooLong length = record { number = 8; returns = length ∷ [] }
+
+-- "9+ opening limits or lent room unfit: nothing"
+unfoldable pub unfit : Refusal
+unfit = record { number = 9; returns = [] }
+
+-- "10+ lent state not sound: nothing"
+unfoldable pub unsound : Refusal
+unsound = record { number = 10; returns = [] }
+
+-- "11+ payload above 16,383 bits: count"
+unfoldable pub payloadTooLong : ℕ → Refusal
+payloadTooLong count = record { number = 11; returns = count ∷ [] }
+
+-- "12+ payload data shorter than its bits: count"
+unfoldable pub payloadShort : ℕ → Refusal
+payloadShort count = record { number = 12; returns = count ∷ [] }
+
+-- "13+ output bytes too few: bytes needed"
+unfoldable pub outputShort : ℕ → Refusal
+outputShort bytes = record { number = 13; returns = bytes ∷ [] }
+
+-- "14+ record list full: cursor at that record's start; draining, places needed"
+unfoldable pub listFull : Place → Refusal
+listFull p = record { number = 14; returns = placed p }
+
+unfoldable pub tooFewPlaces : ℕ → Refusal
+tooFewPlaces places = record { number = 14; returns = places ∷ [] }
+
+-- "15 function count 0: nothing"
+unfoldable pub unresolved : Refusal
+unresolved = record { number = 15; returns = [] }
+
+-- "16+ header can't be written: nothing"
+unfoldable pub unwritable : Refusal
+unwritable = record { number = 16; returns = [] }
+
+-- "17+ no room for the bunch or end mark: the packet's bits with it"
+unfoldable pub noRoom : ℕ → Refusal
+noRoom bits = record { number = 17; returns = bits ∷ [] }
+
+-- the paper's number and values for each case of the code's
 abbrev pub paper : BitError → Refusal
 paper (Eof p l r) = tooFewBits p l r
 paper (MalformedIntPacked p) = endless p

@@ -14,15 +14,8 @@ use Rattle.types.specs.Types.{reasonOf}
 use Rattle.types.specs.declared.ChannelCloseReason.{ChannelCloseReason}
 use Rattle.types.specs.declared.PartialSequenceKind.{PartialSequenceKind}
 use Rattle.types.specs.declared.RawBunchHeader.{RawBunchHeader}
+use Rattle.words.specs.Range.{InRange}
 use Rattle.words.specs.Words.{reasonWord, kindWord, headerWords, kindOf, headerFrom}
-
--- each number within its field's type
-pub record InRange (h : RawBunchHeader) : Type 0 where
-  pub packet-id : SFits w32 (h .«packet_id»)
-  pub ch-index : h .«ch_index» < 2 ^ 32
-  pub ch-sequence : SFits w32 (h .«ch_sequence»)
-  pub payload-bit-count : h .«payload_bit_count» < 2 ^ 32
-  pub payload-bit-offset : h .«payload_bit_offset» < 2 ^ 64
 
 signed-word : (z : ℤ) → SFits w32 z → signed (ofZ w32 z) ≡ z
 unfolding signed

@@ -6,12 +6,12 @@ use mathlib.Core.List.{List, [], _∷_}
 use lib.Dec.{ltb}
 use lib.ListN.{length}
 use borrow.Author.Tests.{ltb-false}
-use Rattle.window.specs.Refusals.{Refusal, beyond}
+use Rattle.window.specs.Refusals.{Refusal, beyond, payloadTooLong, payloadShort, unwritable, noRoom}
 use Rattle.window.specs.Parse.{value}
 use Rattle.types.specs.declared.RawBunchHeader.{RawBunchHeader}
 use Rattle.writer.specs.Bits.{put}
 use Rattle.writer.specs.Header.{bunchBits, writable}
-use Rattle.writer.specs.Answers.{Reply, payloadTooLong, payloadShort, unwritable, noRoom, refuses, roomOf, bitsWith, added, writeBunch, closePacket}
+use Rattle.writer.specs.Answers.{Reply, refuses, roomOf, bitsWith, added, writeBunch, closePacket}
 
 -- the bits at the cursor, and up to which bit the packet is then written
 abbrev pub wrote : List Bool → List ℕ → ℕ → ℕ → Reply

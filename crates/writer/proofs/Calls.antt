@@ -7,12 +7,12 @@ use lib.Dec.{ltb}
 use lib.ListN.{length}
 use native.Mathlib.Omega.{arith}
 use borrow.Author.Tests.{le-ltb, lt-ltb, ltb-false}
-use Rattle.window.specs.Refusals.{beyond}
+use Rattle.window.specs.Refusals.{beyond, payloadTooLong, payloadShort, unwritable, noRoom}
 use Rattle.window.specs.Parse.{value}
 use Rattle.types.specs.declared.RawBunchHeader.{RawBunchHeader}
 use Rattle.writer.specs.Bits.{put}
 use Rattle.writer.specs.Header.{bunchBits, writable}
-use Rattle.writer.specs.Answers.{payloadTooLong, payloadShort, unwritable, noRoom, roomOf, bitsWith, refuses, added, writeBunch, closePacket}
+use Rattle.writer.specs.Answers.{roomOf, bitsWith, refuses, added, writeBunch, closePacket}
 
 module _ (h : RawBunchHeader) (payload : List ℕ) (count : ℕ) (p : List ℕ) (at : ℕ) where
   pub five : ltb (8 * length p) at ≡ true → refuses (beyond at (8 * length p)) p ≡ writeBunch h payload count p at

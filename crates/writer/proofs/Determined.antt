@@ -5,12 +5,12 @@ use mathlib.Core.Bool.{cond}
 use mathlib.Core.List.{List}
 use lib.Dec.{eqb}
 use lib.ListN.{getD}
-use Rattle.window.specs.Refusals.{Refusal, beyond}
+use Rattle.window.specs.Refusals.{Refusal, beyond, payloadTooLong, payloadShort, unwritable, noRoom}
 use Rattle.window.specs.Parse.{Result, value, refusal}
 use Rattle.bitio.proofs.Determined.{determined}
 use Rattle.writer.specs.declared.WriteError.{WriteError}
 use Rattle.writer.specs.declared.Written.{Written}
-use Rattle.writer.specs.Answers.{payloadTooLong, payloadShort, unwritable, noRoom, writePaper, Reply, ofWritten, replied}
+use Rattle.writer.specs.Answers.{writePaper, Reply, ofWritten, replied}
 
 -- a refusal by its number and what it returns
 unwrite : Refusal → WriteError

@@ -4,29 +4,13 @@ use mathlib.Core.Bool.{Bool, true, cond}
 use mathlib.Core.List.{List, [], _∷_}
 use lib.Dec.{ltb}
 use lib.ListN.{length}
-use Rattle.window.specs.Refusals.{Refusal, beyond}
+use Rattle.window.specs.Refusals.{Refusal, beyond, payloadTooLong, payloadShort, unwritable, noRoom}
 use Rattle.window.specs.Parse.{Result, value, refusal}
 use Rattle.types.specs.declared.RawBunchHeader.{RawBunchHeader}
 use Rattle.writer.specs.declared.WriteError.{WriteError}
 use Rattle.writer.specs.declared.Written.{Written}
 use Rattle.writer.specs.Bits.{put}
 use Rattle.writer.specs.Header.{bunchBits, writable}
-
--- "11+ payload above 16,383 bits: count"
-unfoldable pub payloadTooLong : ℕ → Refusal
-payloadTooLong count = record { number = 11; returns = count ∷ [] }
-
--- "12+ payload data shorter than its bits: count"
-unfoldable pub payloadShort : ℕ → Refusal
-payloadShort count = record { number = 12; returns = count ∷ [] }
-
--- "16+ header can't be written: nothing"
-unfoldable pub unwritable : Refusal
-unwritable = record { number = 16; returns = [] }
-
--- "17+ no room for the bunch or end mark: the packet's bits with it"
-unfoldable pub noRoom : ℕ → Refusal
-noRoom bits = record { number = 17; returns = bits ∷ [] }
 
 -- the paper's number and values for each case
 abbrev pub writePaper : WriteError → Refusal

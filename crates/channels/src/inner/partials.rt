@@ -1,6 +1,6 @@
 // The partial tracker: the Rust's `track_partial_bunch` and `validate_continuation`.
 ghost use mathlib.Core.Path.{_≡_};
-ghost use Prim.Native.Nat.{_≤_, _<_};
+ghost use Prim.Native.Nat.{_≤_};
 ghost use lib.ListN.{length, take};
 ghost use Rattle.tables.specs.declared.Slot.{Slot};
 ghost use Rattle.tables.specs.Tables.{slotOf};

@@ -1,8 +1,8 @@
 // The sequence of a bunch: the middle of the Rust's `parse_bunch_header`, and what it stores at its end.
 ghost use mathlib.Core.Path.{_≡_};
-ghost use Prim.Native.Nat.{_≤_, _<_};
+ghost use Prim.Native.Nat.{_≤_};
 ghost use lib.ListN.{length};
-ghost use Rattle.channels.specs.Sequences.{following, reliably, numbered};
+ghost use Rattle.channels.specs.Sequences.{following, reliably};
 ghost use Rattle.channels.specs.Places.{sequencesAt, numberedIn, sequencesLaid};
 ghost use Rattle.channels.specs.Fits.{Fits};
 use tables::Slot;

@@ -1,6 +1,6 @@
 // The listing: the version byte, then record after record.
 ghost use mathlib.Core.Path.{_≡_};
-ghost use Prim.Native.Nat.{_+_, _≤_};
+ghost use Prim.Native.Nat.{_≤_};
 ghost use lib.ListN.{length};
 ghost use Rattle.packet.specs.Memory.{memory};
 ghost use Rattle.packet.specs.State.{State};

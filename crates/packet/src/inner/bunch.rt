@@ -1,6 +1,6 @@
 // One bunch after its header's bits: its sequence, the overrun, its tracking, and the close. The Rust's `read_packet`, one turn.
 ghost use mathlib.Core.Path.{_≡_};
-ghost use Prim.Native.Nat.{_+_, _*_, _≤_, _<_};
+ghost use Prim.Native.Nat.{_*_, _≤_, _<_};
 ghost use lib.Count.{leadingZeros};
 ghost use lib.ListN.{length};
 ghost use Rattle.window.specs.Reads.{largestData};

@@ -1,6 +1,6 @@
 -- Each case, by what the match told.
-use Rattle.field.specs.Walks.{listFull, unresolved}
 use borrow.Author.Needs.{needs}
+use Rattle.window.specs.Refusals.{listFull, unresolved}
 use Rattle.answers.proofs.words.refused_walk.Statement.{statement}
 use Rattle.answers.proofs.words.refused_walk.Tie as tie
 

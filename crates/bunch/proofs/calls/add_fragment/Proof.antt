@@ -1,5 +1,6 @@
 -- Past the test the inner form gives the reply.
 use mathlib.Core.Path.{sym, _∙_}
+use Rattle.window.specs.Refusals.{unsound}
 use Rattle.held.specs.Memory.{memory}
 use Rattle.held.specs.Steps.{adding}
 use Rattle.settling.proofs.Giving.{goes, ten, passed}

@@ -4,12 +4,11 @@ use mathlib.Core.Path.{_≡_, ap, _∙_}
 use mathlib.Core.Bool.{true}
 use native.Mathlib.Omega.{arith}
 use borrow.Author.Needs.{needs}
+use Rattle.window.specs.Refusals.{outputShort, tooFewPlaces}
 use Rattle.held.specs.Memory.{memory}
 use Rattle.held.specs.Sound.{sound}
-use Rattle.held.specs.Steps.{outputShort}
 use Rattle.held.proofs.Soundness.{stands}
 use Rattle.held.proofs.Holding.{start-asks}
-use Rattle.bunch.specs.Answers.{listFull}
 use Rattle.draining.specs.Draining.{refuses}
 use Rattle.draining.proofs.Calls.{passed, failed, messages-are, bytes-are, ten, thirteen, fourteen, all-listed}
 use Rattle.draining.proofs.drains.drain_unfinished.Statement.{statement}
@@ -51,7 +50,7 @@ returns-3 c =
     let s = here e in
     let bytes = c .before .before .before .before .count .ensures .1 ∙ bytes-are (a .a) m (stands (a .a) m s) in
     let messages = c .before .before .before .before .count .ensures .0 ∙ messages-are (a .a) m (stands (a .a) m s) in
-    ap (λ (n : ℕ). refuses (listFull n) (a .a) (a .output .now) (a .list .now)) messages ∙ (fourteen (a .a) m (a .output .now) (a .list .now) s (rw bytes at (c .before .before .if1 .left)) (rw messages at (c .if2 .taken)))
+    ap (λ (n : ℕ). refuses (tooFewPlaces n) (a .a) (a .output .now) (a .list .now)) messages ∙ (fourteen (a .a) m (a .output .now) (a .list .now) s (rw bytes at (c .before .before .if1 .left)) (rw messages at (c .if2 .taken)))
 
 list-all-requires : tie.Need-list-all-requires
 list-all-requires c κs =

@@ -2,10 +2,10 @@
 use Prim.Native.Nat.{ℕ}
 use mathlib.Core.Path.{_≡_, sym, _∙_}
 use mathlib.Core.Bool.{Bool, true, false}
+use Rattle.window.specs.Refusals.{unfit}
 use Rattle.window.specs.Parse.{value, refusal}
 use Rattle.held.specs.Memory.{Memory, memory}
 use Rattle.held.specs.Sound.{fit}
-use Rattle.bunch.specs.Answers.{unfit}
 use Rattle.draining.specs.Opening.{holdingNothing, opened}
 use borrow.Author.Needs.{needs}
 use Rattle.draining.proofs.opening.with_limits.Statement.{statement}

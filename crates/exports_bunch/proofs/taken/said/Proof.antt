@@ -1,9 +1,7 @@
 -- Each case, by what the match told.
 use mathlib.Core.Path.{refl}
-use Rattle.held.specs.Steps.{payloadTooLong, payloadShort, outputShort}
-use Rattle.held.specs.Calls.{unsound}
-use Rattle.bunch.specs.Answers.{unfit, listFull}
 use borrow.Author.Needs.{needs}
+use Rattle.window.specs.Refusals.{unfit, unsound, payloadTooLong, payloadShort, outputShort, tooFewPlaces}
 use Rattle.exports_bunch.proofs.taken.said.Statement.{statement}
 use Rattle.exports_bunch.proofs.taken.said.Tie as tie
 
@@ -28,7 +26,7 @@ unfolding outputShort
 returns-5 c = rw (c .before .e3 .given .1) refl
 
 returns-6 : tie.Need-returns-6
-unfolding listFull
+unfolding tooFewPlaces
 returns-6 c = rw (c .before .e4 .given .1) refl
 
 pub said-spec : {M : Type 1} → statement M

@@ -1,6 +1,6 @@
 -- Not asked for, or the bit's read.
 use mathlib.Core.Bool.{false}
-use mathlib.Core.Path.{refl, sym, ap, _∙_}
+use mathlib.Core.Path.{sym, ap, _∙_}
 use Rattle.window.specs.declared.Bit.{Bit}
 use Rattle.window.specs.Answers.{bitAnswer}
 use Rattle.window.specs.Reads.{bit}

@@ -1,9 +1,8 @@
 -- The last digit is stored, and the loop goes back to the first, as Back has it.
-use mathlib.Core.Path.{_≡_, ap, _∙_}
-use mathlib.Core.List.{List}
+use mathlib.Core.Path.{ap, _∙_}
 use Prim.Native.Nat.{ℕ, _+_, _-_, _/_}
 use native.Mathlib.Omega.{arith}
-use lib.ListN.{length, set, length-set}
+use lib.ListN.{set, length-set}
 use borrow.Author.Needs.{needs}
 use Rattle.lines.specs.Decimal.{digits}
 use Rattle.lines.specs.Lines.{written}

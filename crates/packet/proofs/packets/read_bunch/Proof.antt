@@ -1,12 +1,9 @@
 -- The tests are laws of Calls; past them `read`, whose state the first test showed.
-use Prim.Native.Nat.{_≤_}
-use mathlib.Core.Path.{_≡_, sym, ap, _∙_}
-use native.Mathlib.Omega.{arith}
+use mathlib.Core.Path.{sym, ap, _∙_}
 use borrow.Author.Tests.{not-true, not-false}
 use mir.Syntax.{w32}
 use mir.Val.{ofZ}
 use mir.ValLaws.{toZ-ofZ}
-use Rattle.packet.specs.Packet.{dataBits}
 use Rattle.packet.specs.Memory.{memory}
 use Rattle.packet.proofs.Soundness.{state}
 use Rattle.packet.proofs.Calls.{ten, eight, five, answered}

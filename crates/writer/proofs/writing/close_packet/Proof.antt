@@ -6,9 +6,10 @@ use mathlib.Core.List.{List, [], _∷_}
 use native.Mathlib.Omega.{arith}
 use lib.ListN.{length}
 use borrow.Author.Tests.{ltb-true}
+use Rattle.window.specs.Refusals.{noRoom}
 use Rattle.window.specs.Parse.{value}
 use Rattle.writer.specs.Bits.{bitsOf}
-use Rattle.writer.specs.Answers.{noRoom, refuses}
+use Rattle.writer.specs.Answers.{refuses}
 use Rattle.writer.proofs.Calls.{close-five, close-adds, seventeen, puts, there}
 use borrow.Author.Needs.{needs}
 use Rattle.writer.proofs.writing.close_packet.Statement.{statement}

@@ -1,6 +1,5 @@
 -- The numbers at the slot keep the steps in range. What they show and drop is the step of a message that is handed out.
 use native.Mathlib.Omega.{arith}
-use lib.ListN.{drop}
 use Rattle.held.proofs.Holding.{start-asks}
 use Rattle.bunch.proofs.Handing.{spot, gives-short, gives-message}
 use borrow.Author.Needs.{needs}

@@ -1,8 +1,7 @@
 -- Each effect is one law of Effects, at the place where the channel would go.
-use Prim.Native.Nat.{suc, _+_, _≤_, _<_}
+use Prim.Native.Nat.{suc, _+_}
 use mathlib.Core.Path.{_≡_, sym}
 use native.Mathlib.Omega.{arith}
-use lib.ListN.{length}
 use Rattle.tables.proofs.Join.{free-live}
 use Rattle.channels.proofs.Effects.{same-laid, new-laid, absent-laid}
 use borrow.Author.Needs.{needs}

@@ -1,8 +1,6 @@
 -- Each effect is one law of Effects, at the channel's place.
-use Prim.Native.Nat.{suc, _≤_, _<_}
-use mathlib.Core.Path.{_≡_, sym}
+use mathlib.Core.Path.{sym}
 use native.Mathlib.Omega.{arith}
-use lib.ListN.{length}
 use Rattle.channels.proofs.Tracking.{inside, indexed}
 use Rattle.channels.proofs.Effects.{same-laid, put-laid, gone-laid}
 use borrow.Author.Needs.{needs}

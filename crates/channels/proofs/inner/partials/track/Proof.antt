@@ -1,5 +1,5 @@
 -- A fragment is tracked by `track_fragment`; any other bunch leaves the columns as they are.
-use mathlib.Core.Path.{_≡_, sym}
+use mathlib.Core.Path.{sym}
 use Rattle.channels.specs.Partials.{tracking}
 use Rattle.channels.proofs.Tracking.{lives, roomy}
 use Rattle.channels.proofs.Effects.{same-laid}

@@ -1,8 +1,6 @@
 -- What is judged at the slot that was found is the table's judgement, and its effect is the edit's.
-use Prim.Native.Nat.{_≤_, _<_}
-use mathlib.Core.Path.{_≡_, sym, _∙_}
+use mathlib.Core.Path.{sym, _∙_}
 use native.Mathlib.Omega.{arith}
-use lib.ListN.{length}
 use Rattle.channels.proofs.Tracking.{lives, roomy, indexed}
 use Rattle.channels.proofs.Effects.{judged-there, judged-absent, puts-within}
 use borrow.Author.Needs.{needs}

@@ -1,7 +1,5 @@
 -- Each way through is one law of Retiring, at the slot that was found.
-use Prim.Native.Nat.{suc, _≤_, _<_}
-use mathlib.Core.Path.{_≡_, sym, _∙_}
-use lib.ListN.{length}
+use mathlib.Core.Path.{sym, _∙_}
 use Rattle.tables.proofs.Join.{at-live}
 use Rattle.channels.proofs.Retiring.{partial-gone, partial-absent}
 use borrow.Author.Needs.{needs}

@@ -1,8 +1,7 @@
 -- Each way through is one law of Retiring, at the slot that was found.
-use Prim.Native.Nat.{suc, _-_, _≤_, _<_}
+use Prim.Native.Nat.{suc, _-_}
 use mathlib.Core.Path.{_≡_, sym, _∙_}
 use native.Mathlib.Omega.{arith}
-use lib.ListN.{length}
 use Rattle.tables.proofs.Join.{at-live}
 use Rattle.channels.proofs.Retiring.{sequence-gone, sequence-absent}
 use borrow.Author.Needs.{needs}

@@ -1,11 +1,8 @@
 -- Each way through is one law of Numbering, at the slot that was found.
-use Prim.Native.Nat.{suc, _+_, _≤_, _<_}
-use mathlib.Core.Path.{_≡_, sym, ap, _∙_}
+use Prim.Native.Nat.{suc, _+_, _≤_}
+use mathlib.Core.Path.{_≡_, sym, _∙_}
 use native.Mathlib.Omega.{arith}
-use lib.ListN.{length, take}
-use Rattle.tables.specs.declared.Slot.{Slot}
-use Rattle.tables.specs.Tables.{slotOf}
-use Rattle.tables.proofs.Join.{free-within}
+use lib.ListN.{length}
 use Rattle.channels.proofs.Numbering.{at-inside, at-last, at-next, free-inside, free-full, free-new}
 use borrow.Author.Needs.{needs}
 use Rattle.channels.proofs.inner.sequences.reliably.Statement.{statement}

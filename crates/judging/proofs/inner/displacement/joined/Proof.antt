@@ -3,7 +3,8 @@ use mathlib.Core.Path.{refl}
 use borrow.Author.Needs.{needs}
 use native.Mathlib.Nat.{zero-add}
 use native.Mathlib.Omega.{arith}
-use Rattle.words.proofs.Back.{InRange, back}
+use Rattle.words.specs.Range.{InRange}
+use Rattle.words.proofs.Back.{back}
 use Rattle.judging.proofs.inner.displacement.joined.Statement.{statement}
 use Rattle.judging.proofs.inner.displacement.joined.Tie as tie
 

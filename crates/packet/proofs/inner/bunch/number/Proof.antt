@@ -1,5 +1,5 @@
 -- A reliable bunch's sequence is `reliably`'s; any other leaves the table as it is.
-use mathlib.Core.Path.{sym, _∙_}
+use mathlib.Core.Path.{sym}
 use mathlib.Core.Bool.{false}
 use Rattle.channels.specs.Sequences.{numbered, unreliable}
 use Rattle.channels.proofs.Numbering.{same-sequences}

@@ -1,6 +1,6 @@
 -- What numbering left is Finishing's; then the overrun, or `settle`.
 use Prim.Native.Nat.{_+_, _≤_}
-use mathlib.Core.Path.{_≡_, _∙_}
+use mathlib.Core.Path.{_∙_}
 use native.Mathlib.Omega.{arith}
 use Rattle.packet.proofs.Finishing.{numbered-state, overrun, fits}
 use borrow.Author.Needs.{needs}

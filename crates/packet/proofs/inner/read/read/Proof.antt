@@ -1,12 +1,10 @@
 -- The tests in their order; each answer is a law of Reading, and past them `finish`.
-use Prim.Native.Nat.{ℕ, _*_, _≤_, _<_}
-use mathlib.Core.Path.{_≡_, sym, ap, _∙_}
-use mathlib.Core.Bool.{false, cond}
+use Prim.Native.Nat.{_≤_, _<_}
+use mathlib.Core.Path.{sym, ap, _∙_}
+use mathlib.Core.Bool.{false}
 use native.Mathlib.Omega.{arith}
-use lib.ListN.{length}
-use Rattle.header.specs.Header.{Header, unreadable, readable, headerOf, fields}
 use Rattle.packet.specs.Packet.{Read, dataBits, rest}
-use Rattle.packet.specs.Memory.{Memory, memory, channelsOf}
+use Rattle.packet.specs.Memory.{memory, channelsOf}
 use Rattle.packet.specs.Answers.{reply}
 use Rattle.packet.specs.Turns.{finishes}
 use Rattle.packet.proofs.Reading.{says-end, says-broken, empty, unmarked, at-end, unread, begun, read-on}

@@ -1,11 +1,5 @@
 -- What the tracker left is Turning's; where the close retires, both retirings follow it.
-use Prim.Native.Nat.{_≤_}
-use mathlib.Core.Path.{_≡_, sym, _∙_}
-use native.Mathlib.Omega.{arith}
-use lib.ListN.{length}
-use Rattle.packet.specs.Memory.{memory}
-use Rattle.channels.specs.Fits.{Fits, Live}
-use Rattle.packet.specs.State.{State}
+use mathlib.Core.Path.{sym, _∙_}
 use Rattle.channels.proofs.Tracking.{lives, roomy}
 use Rattle.packet.proofs.Turning.{tracked-fits, tracked-sizes, left-open, closed}
 use borrow.Author.Needs.{needs}

@@ -5,8 +5,9 @@ use mathlib.Core.List.{List}
 use native.Mathlib.Omega.{arith}
 use lib.ListN.{length}
 use borrow.Author.Needs.{needs}
+use Rattle.window.specs.Refusals.{noRoom}
 use Rattle.window.specs.Parse.{value}
-use Rattle.writer.specs.Answers.{noRoom, refuses, bitsWith}
+use Rattle.writer.specs.Answers.{refuses, bitsWith}
 use Rattle.writer.proofs.Appending.{front-some, back-some, length-bunch, put-bunch}
 use Rattle.writer.proofs.Calls.{seventeen, puts, there}
 use Rattle.writer.proofs.inner.append.append.Statement.{statement}
