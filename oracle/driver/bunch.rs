@@ -14,6 +14,8 @@ pub mod records;
 #[cfg(bunch)]
 mod shown;
 #[cfg(bunch)]
+mod shuffles;
+#[cfg(bunch)]
 mod spoil;
 mod streams;
 

@@ -23,7 +23,7 @@ use Rattle.isolation.specs.Runs.{Call, opened, reply, left, callsOf, Eac
 use Rattle.isolation.specs.Chains.{GoesOn, Unbroken, joinedBytes}
 use Rattle.isolation.proofs.Chains.{joined-chains}
 
-abbrev header : Bool → ℕ → RawBunchHeader
+abbrev pub header : Bool → ℕ → RawBunchHeader
 header first n =
     record {
       «packet_id» = pos 0;
@@ -48,7 +48,7 @@ header first n =
       «has_channel_limit_error» = false;
     }
 
-in-range : (first : Bool) (n : ℕ) → n < 2 ^ 31 → InRange (header first n)
+pub in-range : (first : Bool) (n : ℕ) → n < 2 ^ 31 → InRange (header first n)
 in-range first n h =
     record {
       packet-id = record { sfits = omega arith };
@@ -59,13 +59,13 @@ in-range first n h =
     }
 
 -- one byte, and then four bits
-abbrev start : ℕ → Fragment
+abbrev pub start : ℕ → Fragment
 start byte = record { header = header true 1; bits = 8; payload = byte ∷ [] }
 
-abbrev end : ℕ → Fragment
+abbrev pub end : ℕ → Fragment
 end byte = record { header = header false 2; bits = 4; payload = byte ∷ [] }
 
-abbrev add : ℕ → Fragment → Call
+abbrev pub add : ℕ → Fragment → Call
 add c f = record { channel = c; act = adding f; output = [] }
 
 abbrev calls : List Call

@@ -6,3 +6,4 @@ pub mod Isolation
 pub mod Joining
 pub mod Chains
 pub mod Example
+pub mod Wrong

@@ -4,6 +4,7 @@ use super::desk::{CHECKS, Check};
 use super::expected::said;
 use super::memory::{self, MOST_BITS, Memory};
 use super::met::Met;
+use super::shuffles::Shuffles;
 use super::spoil::spoil;
 use super::{Answer, Call, Case, streams};
 use crate::compare::Comparing;
@@ -37,6 +38,7 @@ impl Inputs {
         self.changed_states();
         self.several_causes();
         self.largest();
+        self.shuffles();
         self.comparing.summary();
         self.met.print(self.share == 1);
         let [sound, unsound] = self.changed;
@@ -237,5 +239,16 @@ impl Inputs {
                 case.go_on(&answer);
             }
         }
+    }
+
+    /// Demand 3.
+    fn shuffles(&mut self) {
+        self.comparing.stage("demand 3's shuffles");
+        let rounds = self.rounds(30_000, 500_000);
+        let mut shuffles = Shuffles::new(&mut self.comparing, &mut self.random);
+        for _ in 0..rounds {
+            shuffles.round();
+        }
+        shuffles.print();
     }
 }
