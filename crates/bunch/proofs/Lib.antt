@@ -3,3 +3,4 @@ pub mod Words
 pub mod Joining
 pub mod There
 pub mod Absent
+pub mod Determined

@@ -1,38 +1,15 @@
 -- The calls' promises in the paper's terms determine the answer and the lent memory: no two answers of the code say the same.
 use Prim.Native.Nat.{ℕ}
 use mathlib.Core.Path.{_≡_, refl, ap, sym, _∙_}
-use mathlib.Core.Bool.{cond}
 use mathlib.Core.List.{List}
-use lib.Dec.{eqb}
-use lib.ListN.{getD}
-use Rattle.window.specs.Refusals.{Refusal, unfit, unsound, payloadTooLong, payloadShort, outputShort, tooFewPlaces}
 use Rattle.window.specs.Parse.{Result, value, refusal}
 use Rattle.held.specs.declared.Accumulator.{Accumulator}
-use Rattle.bunch.specs.declared.BunchError.{BunchError}
 use Rattle.draining.specs.declared.Drain.{Drain}
 use Rattle.draining.specs.declared.Emptied.{Emptied}
 use Rattle.draining.specs.declared.Opened.{Opened}
 use Rattle.draining.specs.Opening.{ofOpened}
-use Rattle.bunch.specs.Answers.{errorPaper}
+use Rattle.bunch.proofs.Determined.{unbunch, unbunch-paper}
 use Rattle.draining.specs.Draining.{Reply, drainAnswer, ofEmptied}
-
--- a refusal by its number and what it returns
-unbunch : Refusal → BunchError
-unbunch r =
-    let n = getD (r .returns) 0 0 in
-    cond (eqb (r .number) 9) BunchError.Unfit
-    (cond (eqb (r .number) 10) BunchError.Unsound
-    (cond (eqb (r .number) 11) (BunchError.PayloadTooLong n)
-    (cond (eqb (r .number) 12) (BunchError.PayloadShort n) (cond (eqb (r .number) 13) (BunchError.OutputShort n) (BunchError.ListFull n)))))
-
-unbunch-paper : (e : BunchError) → unbunch (errorPaper e) ≡ e
-unfolding unbunch unfit unsound payloadTooLong payloadShort outputShort tooFewPlaces
-unbunch-paper BunchError.Unfit = refl
-unbunch-paper BunchError.Unsound = refl
-unbunch-paper (BunchError.PayloadTooLong n) = refl
-unbunch-paper (BunchError.PayloadShort n) = refl
-unbunch-paper (BunchError.OutputShort n) = refl
-unbunch-paper (BunchError.ListFull n) = refl
 
 -- an answer, read back
 abbrev back : Result ℕ → Drain
