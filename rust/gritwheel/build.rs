@@ -35,13 +35,15 @@ fn main() {
         // In the repository, and in an installation (PREFIX/share/gritwheel/rust, PREFIX/lib).
         None => vec![root.join("../../target/staticlib"), root.join("../../../lib")],
     };
-    for dir in &places {
-        if let Some(names) = names(dir) {
-            return link(dir, names);
-        }
-    }
-    for dir in &places {
-        println!("cargo::error=Gritwheel's library is not in {}", dir.display());
+    // What stands in these two is for x86-64 Linux; for another target the folder must be named.
+    let target = ["ARCH", "OS"].map(|part| std::env::var(format!("CARGO_CFG_TARGET_{part}")).expect("cargo sets it"));
+    let fits = target == ["x86_64", "linux"] || std::env::var_os("GRITWHEEL_LIB_DIR").is_some();
+    if !fits {
+        println!("cargo::error=the target is {}, for which Gritwheel's library must be named", target.join(" "));
+    } else if let Some((dir, names)) = places.iter().find_map(|dir| Some((dir, names(dir)?))) {
+        return link(dir, names);
+    } else {
+        places.iter().for_each(|dir| println!("cargo::error=Gritwheel's library is not in {}", dir.display()));
     }
     println!(
         "cargo::error=Make it in the repository's root: for c in {}; do rt staticlib $c; done \

@@ -104,7 +104,8 @@ pub struct PartialBunchResult {
 }
 
 impl PartialBunchAccumulator {
-    /// An accumulator of 4,096 messages and 536,870,912 bits, the largest limits.
+    /// An accumulator of 4,096 messages and 536,870,912 bits, the largest limits. It takes 65 MiB, of which the system hands out
+    /// what is used.
     #[must_use]
     pub fn new() -> Self {
         Self::with_limits(MAX_ACTIVE_PARTIAL_BUNCHES, MAX_BUFFERED_PARTIAL_BITS).expect("the largest limits")

@@ -2,8 +2,9 @@
 
 use std::fmt;
 
-/// A refusal. [`Error::number`] is its number in document 01.
+/// A refusal. [`Error::number`] is its number in document 01; later ones may come.
 #[derive(Debug, Clone, Copy, PartialEq, Eq, Hash)]
+#[non_exhaustive]
 pub enum Error {
     /// 1: too few bits. Positions are counted from the window's first bit.
     Eof {

@@ -181,7 +181,8 @@ fn tails() {
 fn many_records() {
     for count in [31, 32, 33, 64, 65, 1_000] {
         // Of each: handle bit, a packed 8, and a payload of 8 bits with the record's number.
-        let mut bits = Vec::new();
+        // Five bits stand before the window.
+        let mut bits = vec![true; 5];
         for number in 0..count {
             bits.push(number % 2 == 1);
             bits.extend((0..8).map(|bit| 16 >> bit & 1 == 1));
@@ -189,12 +190,14 @@ fn many_records() {
         }
         let byte = |bits: &[bool]| bits.iter().enumerate().map(|(place, bit)| u8::from(*bit) << place).sum();
         let data: Vec<u8> = bits.chunks(8).map(byte).collect();
-        let mut reader = over(&data, bits.len() as u64);
+        let mut whole = over(&data, bits.len() as u64);
+        whole.skip_bits(5).expect("they are there");
+        let mut reader = whole.sub_reader(17 * count as u64).expect("they are there");
         let (records, outcome) = parse_class_net_cache(&mut reader, 2);
         assert_eq!((records.len(), outcome, reader.at_end()), (count, Ok(0), true));
         for (number, mut record) in records.into_iter().enumerate() {
             assert_eq!((record.handle, record.position), (number as u32 % 2, 17 * number as u64 + 9));
-            assert_eq!(record.payload.start_bit(), record.position);
+            assert_eq!(record.payload.start_bit(), record.position + 5);
             assert_eq!(record.payload.read_u8(), Ok(number as u8));
         }
     }
