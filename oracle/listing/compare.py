@@ -70,7 +70,7 @@ def main():
     seen = collections.Counter()
     for number in range(a.logs):
         data = one(random.Random(f"{a.seed} {number}"), number)
-        ours, rust = listing([a.ours], data), listing([a.exec, a.rust], data)
+        ours, rust = listing([a.ours, "list"], data), listing([a.exec, a.rust], data)
         if ours != rust:
             path = os.path.join(ROOT, "target/oracle/differs.log")
             with open(path, "wb") as f:
