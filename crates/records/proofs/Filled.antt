@@ -5,8 +5,14 @@ use Prim.Native.Nat.{ℕ, suc, _+_, _≤_, _<_}
 use native.Mathlib.Omega.{arith}
 use lib.ListN.{length, getD, set, take, drop, length-append, length-drop, length-map}
 use lib.Seq.{length-take-le, take-suc, drop-cons, set-at, append-snoc}
+use Rattle.window.specs.declared.Window.{Window}
+use Rattle.field.specs.declared.Walk.{Walk}
+use Rattle.field.specs.Walks.{Walked}
+use Rattle.field.specs.Answers.{ofWalk}
 use Rattle.records.specs.declared.FieldRecord.{FieldRecord}
+use Rattle.records.specs.declared.Stream.{Stream}
 use Rattle.records.specs.Records.{recordOf, filled}
+use Rattle.records.specs.Walks.{walkedInto, listed, ofLists}
 
 module _ (ps : List (List ℕ)) (rs : List FieldRecord) where
   pub filled-none : filled 0 ps rs ≡ rs
@@ -29,3 +35,10 @@ module _ (ps : List (List ℕ)) (rs : List FieldRecord) where
       ap (λ (l : List FieldRecord). set (map recordOf (take i ps) ++ l) i r) (drop-cons rs i r f)
       ∙ set-at (map recordOf (take i ps)) (getD rs i r) (drop (suc i) rs) r i (front i (omega arith))
       ∙ sym (ap (λ (l : List FieldRecord). l ++ drop (suc i) rs) more ∙ append-snoc (map recordOf (take i ps)) r (drop (suc i) rs))
+
+-- the numbers' walk and the records filled of it, as one meaning
+pub lists : (s : Stream) (d : List ℕ) (rs : List FieldRecord) (ps : List (List ℕ)) (w : Window) (r : Walk) (rs′ : List FieldRecord) (ps′ : List (List ℕ)) → ofWalk r ps′ ≡ walkedInto (length rs) s d ps w
+    → rs′ ≡ filled (r .count) ps′ rs → ofLists r rs′ ps′ ≡ listed s d rs ps w
+unfolding listed
+lists s d rs ps w r rs′ ps′ e f =
+    ap (λ (l : List FieldRecord). ofLists r l ps′) f ∙ ap (λ (x : Walked). record { records = filled (x .count) (x .places) rs; walked = x }) e

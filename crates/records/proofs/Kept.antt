@@ -17,7 +17,7 @@ use Rattle.field.specs.Records.{Looked, bitsLeft, ends, abandons, finds, repLay
 use Rattle.field.specs.Walks.{Walked, numbers, onward, walk, walked, from, settle, parseRepLayout, parseClassNetCache}
 use Rattle.field.specs.Answers.{ofWalk}
 use Rattle.records.specs.declared.Stream.{Stream}
-use Rattle.records.specs.Walks.{parse, listed}
+use Rattle.records.specs.Walks.{parse, walkedInto}
 use Rattle.records.specs.Fits.{Fits, Ready}
 use Rattle.records.proofs.Gives.{Gives, Right, right-rep-layout, right-class-net-cache}
 
@@ -91,14 +91,14 @@ module _ (n : ℕ) (ps : List (List ℕ)) where
       go (no h) = let e : min n (length ps) ≡ length ps = omega arith in rw (e, drop-length, drop-of-length-le ps {i = n} (omega arith))
 
   module _ (s : Stream) (d : List ℕ) (w : Window) (r : Walk) (qs : List (List ℕ)) {m : ℕ} (e : m ≡ min n (length ps)) (h : ofWalk r qs ≡ parse s d (take m ps) w) where
-    pub walked-into : ofWalk r (qs ++ drop m ps) ≡ listed s n d ps w
-    unfolding listed
-    walked-into =
+    pub walks-into : ofWalk r (qs ++ drop m ps) ≡ walkedInto n s d ps w
+    unfolding walkedInto
+    walks-into =
         ap (λ (x : Walked). record { places = x .places ++ drop m ps; count = x .count; answer = x .answer }) h
         ∙ rw (e, part, rest)
 
-    pub walked-ready : Ready (r .count) n (qs ++ drop m ps)
-    walked-ready =
+    pub leaves-ready : Ready (r .count) n (qs ++ drop m ps)
+    leaves-ready =
         record {
           placed = omega (arith, e, k .few, length-take m ps);
           written = rw length-append (omega (arith, k .few, k .size));

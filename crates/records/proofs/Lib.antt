@@ -1,3 +1,5 @@
 pub mod Filled
 pub mod Gives
 pub mod Kept
+pub mod Again
+pub mod Shared

@@ -5,7 +5,7 @@ ghost use mathlib.Core.List.{[]};
 ghost use lib.ListN.{length, getD};
 ghost use Rattle.field.specs.Answers.{ofWalk};
 ghost use Rattle.records.specs.Records.{recordOf, filled};
-ghost use Rattle.records.specs.Walks.{parse, listed};
+ghost use Rattle.records.specs.Walks.{parse, walkedInto};
 ghost use Rattle.records.specs.Fits.{Fits, Ready};
 use crate::FieldRecord;
 use crate::Stream;
@@ -65,7 +65,7 @@ pub fn walk_numbers(
     numbers: &mut [Record],
     room: usize,
 ) -> Walk
-    ensures { λ r. ⌜ (ofWalk r (now (numbers .exit)) ≡ listed stream room (now (bytes .entry)) (now (numbers .entry)) w) × Ready (r .count) room (now (numbers .exit)) ⌝ }
+    ensures { λ r. ⌜ (ofWalk r (now (numbers .exit)) ≡ walkedInto room stream (now (bytes .entry)) (now (numbers .entry)) w) × Ready (r .count) room (now (numbers .exit)) ⌝ }
 {
     let n = smaller(room, numbers.len());
     walk(bytes, w, stream, &mut numbers[..n])

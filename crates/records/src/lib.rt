@@ -3,6 +3,7 @@ use window::PacketBit;
 use window::WindowBit;
 
 pub mod inner;
+pub mod walks;
 
 // What the Rust's `on_field` and `on_rpc` are given; the payload's start stands for their reader.
 #[repr(C)]

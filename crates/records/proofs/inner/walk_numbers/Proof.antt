@@ -3,7 +3,7 @@ use mathlib.Core.Path.{sym}
 use native.Mathlib.Omega.{arith}
 use borrow.Author.Needs.{needs}
 use lib.Seq.{length-take-le}
-use Rattle.records.proofs.Kept.{walked-into, walked-ready}
+use Rattle.records.proofs.Kept.{walks-into, leaves-ready}
 use Rattle.records.proofs.inner.walk_numbers.Statement.{statement}
 use Rattle.records.proofs.inner.walk_numbers.Tie as tie
 
@@ -15,8 +15,8 @@ returns c =
     let a = c .before .before .before .before .before .args in
     let e = c .before .before .before .smaller .ensures in
     let h = c .before .walk .ensures in (
-      walked-into (a .room) (a .numbers .now) (a .stream) (a .bytes .now) (a .w) (c .before .walk .result) _ e h,
-      walked-ready (a .room) (a .numbers .now) (a .stream) (a .bytes .now) (a .w) (c .before .walk .result) _ e h,
+      walks-into (a .room) (a .numbers .now) (a .stream) (a .bytes .now) (a .w) (c .before .walk .result) _ e h,
+      leaves-ready (a .room) (a .numbers .now) (a .stream) (a .bytes .now) (a .w) (c .before .walk .result) _ e h,
     )
 
 pub walk-numbers-spec : {M : Type 1} → statement M

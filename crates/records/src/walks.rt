@@ -1,0 +1,23 @@
+// The record walks. Each runs on numbers first, and then writes a record for each place that it filled.
+ghost use mathlib.Core.Path.{_≡_};
+ghost use Rattle.records.specs.Walks.{listed, ofLists};
+use crate::FieldRecord;
+use crate::Stream;
+use crate::inner;
+use field::Record;
+use field::Walk;
+use window::Window;
+
+pub fn parse(
+    bytes: &[u8],
+    w: Window,
+    stream: Stream,
+    records: &mut [FieldRecord],
+    numbers: &mut [Record],
+) -> Walk
+    ensures { λ r. ⌜ ofLists r (now (records .exit)) (now (numbers .exit)) ≡ listed stream (now (bytes .entry)) (now (records .entry)) (now (numbers .entry)) w ⌝ }
+{
+    let walk = inner::walk_numbers(bytes, w, stream, &mut *numbers, records.len());
+    inner::fill(records, numbers, walk.count as usize);
+    walk
+}
