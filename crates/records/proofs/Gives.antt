@@ -3,7 +3,6 @@ use mathlib.Core.Path.{_≡_, refl, subst}
 use mathlib.Core.Bool.{Bool, true, false, not}
 use mathlib.Core.List.{List}
 use Prim.Native.Nat.{ℕ, zero, suc, _+_, _-_, _*_, _/_, _%_, _^_, _≤_, _<_, max}
-use native.Mathlib.Nat.{mul-le-mul-right}
 use native.Mathlib.Omega.{arith}
 use lib.Dec.{eqb, leb, ltb}
 use lib.Pow.{pow-mono}
@@ -11,12 +10,11 @@ use borrow.Author.Tests.{ltb-false}
 use Rattle.bits.proofs.Numbers.{bits-lt}
 use Rattle.window.specs.declared.Window.{Window}
 use Rattle.window.specs.declared.Place.{Place}
-use Rattle.window.specs.Refusals.{Refusal, endless, tooLarge}
-use Rattle.window.specs.Parse.{Answer, got, refused, Parse, andThen, _>>=_, _>>_, give, refuse, refuseIf, readIf, place}
-use Rattle.window.specs.Reads.{need, taken, bits, packedFrom, packed, log2, serialized}
+use Rattle.window.specs.Refusals.{Refusal, tooLarge}
+use Rattle.window.specs.Parse.{Answer, got, refused, Parse, andThen, _>>=_, _>>_, give, refuse, refuseIf, readIf}
+use Rattle.window.specs.Reads.{taken, bits, packedFrom, packed, log2, serialized}
 use Rattle.window.proofs.Rows.{not-refused}
-use Rattle.field.specs.declared.inner.Kind.{Kind}
-use Rattle.field.specs.Records.{Found, Looked, ends, abandons, finds, remaining, payload, counted, repLayout, call, classNetCache}
+use Rattle.field.specs.Records.{Looked, ends, abandons, finds, payload, counted, repLayout, call, classNetCache}
 
 pub record Gives {A : Type 0} (P : A → Type 0) (p : Parse A) : Type 0 where
   pub gives : (d : List ℕ) (w : Window) {a : A} {u : Window} → p d w ≡ got a u → P a

@@ -21,3 +21,43 @@ pub fn parse(
     inner::fill(records, numbers, walk.count as usize);
     walk
 }
+
+pub fn parse_rep_layout(
+    bytes: &[u8],
+    w: Window,
+    records: &mut [FieldRecord],
+    numbers: &mut [Record],
+) -> Walk
+    ensures { λ r. ⌜ ofLists r (now (records .exit)) (now (numbers .exit)) ≡ listed (Stream.RepLayout) (now (bytes .entry)) (now (records .entry)) (now (numbers .entry)) w ⌝ }
+{
+    parse(bytes, w, Stream::RepLayout, records, numbers)
+}
+
+pub fn parse_rep_layout_content_block(
+    bytes: &[u8],
+    w: Window,
+    records: &mut [FieldRecord],
+    numbers: &mut [Record],
+) -> Walk
+    ensures { λ r. ⌜ ofLists r (now (records .exit)) (now (numbers .exit)) ≡ listed (Stream.RepLayoutContentBlock) (now (bytes .entry)) (now (records .entry)) (now (numbers .entry)) w ⌝ }
+{
+    parse(bytes, w, Stream::RepLayoutContentBlock, records, numbers)
+}
+
+pub fn parse_class_net_cache(
+    bytes: &[u8],
+    w: Window,
+    function_count: u32,
+    records: &mut [FieldRecord],
+    numbers: &mut [Record],
+) -> Walk
+    ensures { λ r. ⌜ ofLists r (now (records .exit)) (now (numbers .exit)) ≡ listed (Stream.ClassNetCache «function_count») (now (bytes .entry)) (now (records .entry)) (now (numbers .entry)) w ⌝ }
+{
+    parse(
+        bytes,
+        w,
+        Stream::ClassNetCache(function_count),
+        records,
+        numbers,
+    )
+}

@@ -22,14 +22,13 @@ use types.Part.{agg, whole, sub, look-in}
 use types.Run.{look, init, store, forget, stop, hop, fld, from, load, addr, of-opd, and-then, no-more, assigns, land, returns, enter, alloc1, alloc0, params1, pass1, pass0, free1, free0}
 use types.Tokens.{lft-new, lft-end}
 use sound.WpLaws.{FmC, fmOf, WpFn-mono}
-use denote.RattleType.{RattleType, owns}
+use denote.RattleType.{owns}
 use denote.Laws.{Is, shows}
-use denote.Array.{Array}
 use denote.Plain.{Nothing, uint-makes, nothing-lawful}
-use denote.Builtin.{u8, u64, usize, ArrayOf}
+use denote.Builtin.{u8, usize}
 use denote.Ref.{RefT, now}
 use denote.Slice.{sliceTy, sliceVal, slice-vals, mut-slice-tells, shr-slice-tells, shr-slice-lawful, shr-slice-copy, MutSlice, ShrSlice, Room, finally}
-use denote.Signature.{Slot, plain}
+use denote.Signature.{plain}
 use denote.Steps.{only, owned, peeks, heard, nothing}
 use denote.Struct.Laws as LL
 use denote.Enum.Laws as EL
@@ -53,6 +52,7 @@ use Rattle.records.specs.declared.Stream.{Stream}
 use Rattle.records.specs.Records.{filled}
 use Rattle.records.specs.Walks.{walkedInto}
 use Rattle.records.specs.Fits.{Ready}
+use Rattle.records.proofs.Rows.{Place, Row}
 use Rattle.records.proofs.Filled.{lists}
 use Rattle.records.proofs.Again.{LentAgain, lends-again, comes-back}
 use Rattle.records.proofs.Shared.{LentShared, lends-shared, shared-back}
@@ -72,14 +72,8 @@ use Rattle.records.proofs.walks.parse as parse
 use Rattle.records.proofs.walks.parse.Statement as stated
 use Rattle.records.proofs.walks.parse.Code as code
 
-abbrev Place : {n : ℕ} → Slot n
-Place = ArrayOf (plain (λ _. u64)) (λ _. tt) 4
-
-abbrev Row : RattleType
-Row = Array u64 4
-
 abbrev stayed : Stays (parse.ended .signature .params) (parse.ended .kept)
-stayed = (stay-none-slice (0 ∷ []) tt (plain (λ _. u8)) yes, (stay-none (λ _. P.the-row) yes, (stay-none (λ _. S.the-row) yes, (gave-slice (1 ∷ []) tt (plain (λ _. T.the-row)), (stay-slice (2 ∷ []) tt Place, tt)))))
+stayed = (stay-none-slice (0 ∷ []) tt (plain (λ _. u8)) yes, (stay-none (λ _. P.the-row) yes, (stay-none (λ _. S.the-row) yes, (gave-slice (1 ∷ []) tt (plain (λ _. T.the-row)), (stay-slice (2 ∷ []) tt (Place 3), tt)))))
 
 module _ {M : Type 1} (𝓤 : URA M) (H : Heap 𝓤) (A : Atoms 𝓤) (mem : Memory → SProp 𝓤) (run : Routine → Fun 𝓤) where
   -- the contracts that the proof cites
@@ -232,7 +226,7 @@ module _ {M : Type 1} (𝓤 : URA M) (H : Heap 𝓤) (A : Atoms 𝓤) (W : Given
           assigns ! (addr ! (from ! (fld ! refl (hop ! (look-in ! 24 (sub ! 0 refl (whole !))) (stop !))))) (from ! (stop !)) (init ! 8 refl (tt, tt)) $
           assigns ! (agg ! (and-then ! (load ! (from ! (stop !)) (look ! 8 refl)) (and-then ! (load ! (from ! (fld ! refl (stop !))) (look-in ! 24 (sub ! 1 refl (whole !)))) (no-more !)))) (from ! (stop !)) (init ! 6 refl (tt, (tt, (record { fits = room₂ .0 }, tt)))) $
           rewrite ! 6 (λ (m : ℕ). ‵ (fat fullShare Nums l₁₄ 0 (v₂ m))) (sym el) refl $ rewrite ! 0 (λ (m : ℕ). ‵ (OwnN l m)) (sym el) refl $
-          assigns ! (of-opd ! (load ! (from ! (fld ! refl (stop !))) (look-in ! 22 (sub ! 1 refl (whole !))))) (from ! (stop !)) (store ! 16 refl (tt, record { fits = fs .1 .0 .1 })) $
+          assigns ! (of-opd ! (load ! (from ! (fld ! {τ = tyInt w64} {d = 48} refl (stop !))) (look-in ! 22 {τ = tyInt w64} (sub ! 1 {τ = tyInt w64} {d = 48} refl (whole !))))) (from ! (stop !)) (store ! 16 refl (tt, record { fits = fs .1 .0 .1 })) $
           -- the numbers are lent as a `&`, for a lifetime ν′ of the call
           lft-new ! tt (λ ν′. move ! (1 ∷ 2 ∷ []) $
           use2 W (later (some (λ (δ′ : GName). ‵ (ShrSlice (named 1) (ν′ ∷ []) Row .own (N δ′ l) (v₂ (length l) ∷ [])) ⊛ ‵ (LentShared Row κ₂ (ν′ ∷ []) q₂ γ₂ b₂ o₂ l)))) (lends-shared Row κ₂ (ν′ ∷ []) q₂ γ₂ b₂ o₂ 𝓤 H A W (named 2) (named 1) l) $ await ! tt $ pick ! (λ δ′. split ! $
@@ -274,7 +268,7 @@ parse-meets 𝓤 H A W mem run 𝓣 known-core known-fill =
         goes-none 𝓤 H A W 3 (λ _. P.the-row) yes (λ κs x f. refl),
         (
           goes-none 𝓤 H A W 3 (λ _. S.the-row) yes (λ κs x f. refl),
-          (goes-gave-slice 𝓤 H A W 3 1 tt (plain (λ _. T.the-row)), (goes-slice 𝓤 H A W 3 2 tt Place, tt)),
+          (goes-gave-slice 𝓤 H A W 3 1 tt (plain (λ _. T.the-row)), (goes-slice 𝓤 H A W 3 2 tt (Place 3), tt)),
         ),
       ),
     ) (parse.clauses 𝓤 H A mem run)
