@@ -6,3 +6,4 @@ pub mod Again
 pub mod Shared
 pub mod Passing
 pub mod Layouts
+pub mod Determined
