@@ -4,6 +4,7 @@ pub mod Gives
 pub mod Kept
 pub mod Again
 pub mod Shared
+pub mod Filling
 pub mod Passing
 pub mod Layouts
 pub mod Determined

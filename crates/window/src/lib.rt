@@ -5,9 +5,11 @@ ghost use Rattle.window.specs.Refusals.{placeOf};
 pub mod inner;
 
 // A bit's place counted from the window's first bit: the Rust's `pos`.
+#[repr(C)]
 pub struct WindowBit(pub u64);
 
 // A bit's place counted from the packet's first bit: the Rust's `start_bit + pos`.
+#[repr(C)]
 pub struct PacketBit(pub u64);
 
 // The Rust's `BitReader` without its slice, which stands beside it in every call.
