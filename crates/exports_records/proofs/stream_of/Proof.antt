@@ -1,20 +1,21 @@
+-- A word that is neither 0 nor 1 says the class net cache.
+use Prim.Native.Nat.{ℕ, zero, suc}
+use mathlib.Core.Path.{_≡_, refl}
+use mathlib.Core.List.{[], _∷_}
 use borrow.Author.Needs.{needs}
+use types.Run.{OneOf, hit}
+use Rattle.records.specs.declared.Stream.{Stream}
+use Rattle.exports_records.specs.Told.{streamOf}
 use Rattle.exports_records.proofs.stream_of.Statement.{statement}
 use Rattle.exports_records.proofs.stream_of.Tie as tie
-use Rattle.exports_records.proofs.stream_of.Reads as reads
-use Rattle.exports_records.proofs.stream_of.Lts as lts
 
--- src/lib.rt:13:1
-returns : tie.Need-returns
-returns c = search needs
+other : (n count : ℕ) → (OneOf (0 ∷ []) n → ⊥) → (OneOf (1 ∷ []) n → ⊥) → Stream.ClassNetCache count ≡ streamOf n count
+other zero count f g = absurd (f (hit (0 ∷ []) 0 tt))
+other (suc zero) count f g = absurd (g (hit (1 ∷ []) 1 tt))
+other (suc (suc n)) count f g = refl
 
--- src/lib.rt:13:1
-returns-2 : tie.Need-returns-2
-returns-2 c = search needs
-
--- src/lib.rt:13:1
 returns-3 : tie.Need-returns-3
-returns-3 c = ?
+returns-3 c = other (c .before .args .stream) (c .before .args .function-count) (c .match .rest .0 .1) (c .match .rest .1)
 
 pub stream-of-spec : {M : Type 1} → statement M
-stream-of-spec = tie.close (tie.spec returns returns-2 returns-3)
+stream-of-spec = tie.close (tie.spec (λ c. search needs) (λ c. search needs) returns-3)
