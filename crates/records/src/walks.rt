@@ -1,4 +1,5 @@
-// The record walks. Each runs on numbers first, and then writes a record for each place that it filled.
+// The record walks: each runs on lent numbers, and then writes a record for each place of numbers that it filled.
+// A record has a place where both lists have one: 14 comes where the shorter list is full.
 ghost use mathlib.Core.Path.{_≡_};
 ghost use Rattle.records.specs.Walks.{listed, ofLists};
 use crate::FieldRecord;
@@ -8,6 +9,7 @@ use field::Record;
 use field::Walk;
 use window::Window;
 
+// The walk that the stream names.
 pub fn parse(
     bytes: &[u8],
     w: Window,
