@@ -108,6 +108,19 @@ fn ours(stream: &Stream, places: &mut [Record]) -> u64 {
     told(out[7], out[5])
 }
 
+/// Ours into a list of field records, after the walk on numbers.
+fn listed(stream: &Stream, records: &mut [FieldRecord], numbers: &mut [Record]) -> u64 {
+    let (bytes, n, length) = (stream.data.as_ptr(), stream.data.len(), stream.length);
+    let (kind, functions) = match stream.function_count {
+        Some(functions) => (2, functions),
+        None => (u32::from(stream.retain), 0),
+    };
+    let (list, i, on, k) = (records.as_mut_ptr(), records.len(), numbers.as_mut_ptr(), numbers.len());
+    let mut out = [0; 8];
+    unsafe { gritwheel_list_records(bytes, n, FIRST_BIT, 0, length, kind, functions, list, i, on, k, &mut out) };
+    told(out[7], out[5])
+}
+
 fn case(timing: &Timing, name: &str, stream: &Stream) {
     let name = &format!("{name}, {}", stream.records);
     let (mut first, mut second) = (vec![[0; 4]; stream.records], vec![[1; 4]; stream.records]);
@@ -117,6 +130,14 @@ fn case(timing: &Timing, name: &str, stream: &Stream) {
         std::process::exit(1);
     }
     timing.compare(name, stream.records, || rust(stream, &mut first), || ours(stream, &mut second));
+    let mut records = vec![FieldRecord { handle: 0, bit_count: 0, in_window: 0, in_packet: 0 }; stream.records];
+    let numbers = |r: &FieldRecord| [u64::from(r.handle), u64::from(r.bit_count), r.in_window, r.in_packet];
+    let name = &format!("{name}, into field records");
+    if listed(stream, &mut records, &mut second) != whole || !records.iter().map(numbers).eq(first.iter().copied()) {
+        println!("{name}: the records differ");
+        std::process::exit(1);
+    }
+    timing.compare(name, stream.records, || rust(stream, &mut first), || listed(stream, &mut records, &mut second));
 }
 
 pub fn run(timing: &Timing) {

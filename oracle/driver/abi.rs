@@ -8,6 +8,16 @@ pub type Out = [u64; 7];
 /// A walk's: the seven, then how many records were written.
 pub type WalkOut = [u64; 8];
 
+/// A record in a list of field records (crates/records).
+#[repr(C)]
+#[derive(Clone, Copy, PartialEq)]
+pub struct FieldRecord {
+    pub handle: u32,
+    pub bit_count: u32,
+    pub in_window: u64,
+    pub in_packet: u64,
+}
+
 /// A packet reader's opening: 0 or the refusal's number, the limit, and the live places of both tables.
 pub type ReaderOut = [u64; 4];
 
@@ -139,6 +149,9 @@ reads! {
 
 reads! {
     WalkOut;
+    gritwheel_list_records(
+        stream: u32, function_count: u32, records: *mut FieldRecord, i: usize, numbers: *mut [u64; 4], k: usize
+    );
     gritwheel_parse_rep_layout(records: *mut [u64; 4], k: usize);
     gritwheel_parse_rep_layout_content_block(records: *mut [u64; 4], k: usize);
     gritwheel_parse_class_net_cache(function_count: u32, records: *mut [u64; 4], k: usize);

@@ -27,6 +27,42 @@ fn once(case: &Case, data: &[u8], records: &mut [Record], out: &mut WalkOut) {
     }
 }
 
+/// What stands in a field record's place before the call, and around the list.
+const RECORD: FieldRecord = FieldRecord { handle: 0xc3a5_c3a5, bit_count: 0x5a3c_5a3c, in_window: UNWRITTEN, in_packet: UNWRITTEN };
+
+/// The same walk into a list of field records, one list or the other a little longer: whether it agrees with the walk on numbers.
+fn listed(case: &Case, data: &[u8], words: &WalkOut, places: &[Record]) -> bool {
+    let (bytes, n) = (data.as_ptr(), data.len());
+    let [start, position, length] = case.window;
+    let (more, longer) = if n % 2 == 0 { (n % 3, 0) } else { (0, n % 3) };
+    let stream = case.call as u32 - RepLayout as u32;
+    let mut out = [UNWRITTEN; 8];
+    let (mut numbers, mut records) = (Vec::new(), Vec::new());
+    guarded(&mut numbers, (0..case.places + more).map(before), &GUARD);
+    guarded(&mut records, vec![RECORD; case.places + longer], &[RECORD]);
+    let (list, i) = (records[1..].as_mut_ptr(), case.places + longer);
+    let (on, k) = (numbers[1..].as_mut_ptr(), case.places + more);
+    unsafe {
+        gritwheel_list_records(bytes, n, start, position, length, stream, case.function_count, list, i, on, k, &mut out);
+    }
+    let stood = unguarded(&mut numbers, &GUARD) & unguarded(&mut records, &[RECORD]);
+    let written = words[7] as usize;
+    let as_told = |index: usize, record: &FieldRecord| match places.get(index).filter(|_| index < written) {
+        Some(&[handle, bit_count, in_window, in_packet]) => {
+            let [handle, bit_count] = [handle, bit_count].map(|word| u32::try_from(word).ok());
+            handle == Some(record.handle)
+                && bit_count == Some(record.bit_count)
+                && (in_window, in_packet) == (record.in_window, record.in_packet)
+        }
+        None => *record == RECORD,
+    };
+    stood
+        && out == *words
+        && numbers.starts_with(places)
+        && (case.places..).zip(&numbers[case.places..]).all(|(index, place)| *place == before(index))
+        && records.iter().enumerate().all(|(index, record)| as_told(index, record))
+}
+
 impl compare::Case for Case {
     const CASES: &[&str] = &["ended", "tail", "abandoned"];
 
@@ -43,6 +79,9 @@ impl compare::Case for Case {
         *damage = changed(data, &self.data);
         if !unguarded(places, &GUARD) {
             *damage = Some("memory around the list");
+        }
+        if !listed(self, data, words, places) {
+            *damage = Some("the list of field records");
         }
     }
 
