@@ -182,6 +182,21 @@ void gritwheel_parse_class_net_cache(const uint8_t *bytes, size_t n, uint64_t st
                                      uint32_t function_count, gritwheel_record *records, size_t k,
                                      uint64_t out[GRITWHEEL_WALK_WORDS]);
 
+/* The same walks into a list of field records (libexports_records.a): the walk runs on `numbers` first, and then a record is
+ * written for each place that it filled. A record has a place where both lists have one, so 14 comes where the shorter list is
+ * full; places of `records` after the last one, and of `numbers` after the first `i`, stay as they were. `stream` is 0 for
+ * RepLayout, 1 for RepLayout with its tail kept, any other the class net cache; `function_count` is looked at there alone. */
+typedef struct gritwheel_field_record {
+    uint32_t handle;
+    uint32_t bit_count;
+    uint64_t in_window; /* the payload's first bit, counted from the window's first */
+    uint64_t in_packet; /* the same, counted from the data's first */
+} gritwheel_field_record;
+
+void gritwheel_list_records(const uint8_t *bytes, size_t n, uint64_t start, uint64_t position, uint64_t length, uint32_t stream,
+                            uint32_t function_count, gritwheel_field_record *records, size_t i, gritwheel_record *numbers,
+                            size_t k, uint64_t out[GRITWHEEL_WALK_WORDS]);
+
 /* ---- A bunch's header as twenty words -----------------------------------------------------------------------------------
  *
  * Handed in, any words are a header: a flag is any word but 0, a field of 32 bits the word's low ones, a close reason other

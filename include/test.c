@@ -162,6 +162,17 @@ static void walks(void) {
     CHECK(list[0].handle == 1 && list[0].bit_count == 3 && list[0].position == 17 && list[0].start_bit == 17);
     gritwheel_parse_rep_layout(layout, 5, 0, 0, 32, list, 2, out);
     CHECK(EIGHT(0, 1, 4, 0, 0, 32, 32, 1));
+    /* The same stream into field records, each list too short in turn. */
+    gritwheel_field_record records[2];
+    memset(records, 0x55, sizeof records);
+    gritwheel_list_records(layout, 5, 0, 0, 32, 1, 0, records, 2, list, 2, out);
+    CHECK(EIGHT(0, 1, 4, 0, 0, 28, 32, 1));
+    CHECK(records[0].handle == 1 && records[0].bit_count == 3 && records[0].in_window == 17 && records[0].in_packet == 17);
+    CHECK(records[1].handle == 0x55555555u);
+    gritwheel_list_records(layout, 5, 0, 0, 32, 0, 0, records, 0, list, 2, out);
+    CHECK(EIGHT(14, 1, 0, 0, 0, 1, 32, 0));
+    gritwheel_list_records(layout, 5, 0, 0, 32, 0, 0, records, 2, list, 0, out);
+    CHECK(EIGHT(14, 1, 0, 0, 0, 1, 32, 0));
 }
 
 /* A packet reader with room for four channels. */
