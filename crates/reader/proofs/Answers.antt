@@ -1,0 +1,56 @@
+-- What a call of `bitio` answers, as the walks of this crate see it: an enum, and in a struct beside it the next window.
+use mathlib.Core.Path.{_≡_}
+use mathlib.Core.List.{List, [], _∷_}
+use mir.Syntax.{Sym, Ty}
+use mir.Val.{Val}
+use denote.RattleType.{RattleType, Denots}
+use denote.Lowered.{Lowered}
+use denote.Enum.Enum.{Few, Plainss, layout}
+use denote.Enum.Declared as enums
+use denote.Enum.Laws as EL
+use denote.Struct.Field.{Field, rows}
+use denote.Struct.Declared as structs
+use denote.Struct.Laws as LL
+use denote.Struct.Struct as plainly
+use Rattle.window.specs.declared.Window.{Window}
+use Rattle.window.proofs.Window as Wi
+use Rattle.window.proofs.Window.Laws as Wi′
+
+-- `name`, `Got` and `one` are the struct's; `enum` and what follows it are the answer's
+pub record Kind : Type 2 where
+  pub enum : enums.Declared
+  pub laws : EL.Laws enum
+  pub plain : Plainss (enums.variants enum)
+  pub few : Few (enums.shape enum)
+  pub lowers : Lowered (enums.row enum)
+  pub name : Sym
+  pub Got : Type 0
+  pub answer : Got → enum .D
+  pub next : Got → Window
+  pub one : (x y : Got) → _≡_ {A = Denots (rows (enums.field enum ∷ Wi.the-field ∷ []))} (enum .to (answer x), (Wi.the-type .to (next x), tt)) (enum .to (answer y), (Wi.the-type .to (next y), tt)) → x ≡ y
+
+module _ (k : Kind) where
+  abbrev pub Answered : RattleType
+  Answered = enums.row (k .enum)
+
+  abbrev pub answerVal : k .enum .D → Val
+  answerVal = EL.val (k .enum) (k .laws)
+
+  abbrev pub answerTy : Ty
+  answerTy = layout (enums.shape (k .enum))
+
+  abbrev pub got : structs.Declared
+  got = record {
+    name = k .name;
+    args = [];
+    parts = enums.field (k .enum) ∷ Wi.the-field ∷ [];
+    D = k .Got;
+    to = λ r. (k .enum .to (k .answer r), (Wi.the-type .to (k .next r), tt));
+    to-one = k .one;
+  }
+
+  abbrev pub gotLaws : LL.Laws got
+  gotLaws = (EL.field-laws (k .enum) (k .laws) (k .few) (k .lowers), (Wi′.the-field-laws, tt))
+
+  abbrev pub gotTy : Ty
+  gotTy = plainly.layout (structs.shape got)

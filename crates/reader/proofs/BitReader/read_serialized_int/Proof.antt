@@ -1,0 +1,15 @@
+-- `reader::BitReader::read_serialized_int` meets its contract: it asks `bitio`'s `read_serialized_int` at the reader's place.
+use mir.Syntax.{w32}
+use Rattle.window.specs.Answers.{u32Answer}
+use Rattle.window.specs.Reads.{readSerialized}
+use Rattle.bitio.proofs.reads.read_serialized_int.Symbol as asked
+use Rattle.bitio.proofs.reads.read_serialized_int.Met as asked-thm
+use Rattle.reader.proofs.AskingFor.{asks-for}
+use Rattle.reader.proofs.Calls.{u32}
+use Rattle.reader.proofs.BitReader.read_serialized_int.Key.{name}
+use Rattle.reader.proofs.BitReader.read_serialized_int.Statement.{statement}
+use Rattle.reader.proofs.BitReader.read_serialized_int.Code as code
+
+pub read-serialized-int-spec : {M : Type 1} → statement M
+unfolding code.routine
+read-serialized-int-spec 𝓤 H 𝓜 𝓖 𝓡 = asks-for u32 w32 u32Answer readSerialized 𝓤 H 𝓜 𝓖 𝓡 code.env name asked.name (code.unfolded 𝓤 H 𝓜 𝓡) asked.routine code.calls-bitio·reads·read-serialized-int (asked-thm.met 𝓤 H 𝓜 𝓖 𝓡)

@@ -1,0 +1,56 @@
+-- The answers of `bitio`'s calls, each as a `Kind`.
+use Rattle.window.proofs.Done as Done
+use Rattle.window.proofs.Done.Laws as Done′
+use Rattle.window.proofs.DoneRead as DoneRead
+use Rattle.window.proofs.Bit as Bit
+use Rattle.window.proofs.Bit.Laws as Bit′
+use Rattle.window.proofs.BitRead as BitRead
+use Rattle.window.proofs.U8 as U8
+use Rattle.window.proofs.U8.Laws as U8′
+use Rattle.window.proofs.U8Read as U8Read
+use Rattle.window.proofs.U16 as U16
+use Rattle.window.proofs.U16.Laws as U16′
+use Rattle.window.proofs.U16Read as U16Read
+use Rattle.window.proofs.U32 as U32
+use Rattle.window.proofs.U32.Laws as U32′
+use Rattle.window.proofs.U32Read as U32Read
+use Rattle.window.proofs.I32 as I32
+use Rattle.window.proofs.I32.Laws as I32′
+use Rattle.window.proofs.I32Read as I32Read
+use Rattle.window.proofs.U64 as U64
+use Rattle.window.proofs.U64.Laws as U64′
+use Rattle.window.proofs.U64Read as U64Read
+use Rattle.window.proofs.F32 as F32
+use Rattle.window.proofs.F32.Laws as F32′
+use Rattle.window.proofs.F32Read as F32Read
+use Rattle.window.proofs.F64 as F64
+use Rattle.window.proofs.F64.Laws as F64′
+use Rattle.window.proofs.F64Read as F64Read
+use Rattle.reader.proofs.Answers.{Kind}
+
+abbrev pub done : Kind
+done = record { enum = Done.the-type; laws = Done′.the-laws; plain = Done′.the-plain; few = tt; lowers = Done′.lowers; name = DoneRead.the-type .name; Got = DoneRead.the-type .D; answer = λ r. r .answer; next = λ r. r .next; one = DoneRead.the-type .to-one }
+
+abbrev pub bit : Kind
+bit = record { enum = Bit.the-type; laws = Bit′.the-laws; plain = Bit′.the-plain; few = tt; lowers = Bit′.lowers; name = BitRead.the-type .name; Got = BitRead.the-type .D; answer = λ r. r .answer; next = λ r. r .next; one = BitRead.the-type .to-one }
+
+abbrev pub u8 : Kind
+u8 = record { enum = U8.the-type; laws = U8′.the-laws; plain = U8′.the-plain; few = tt; lowers = U8′.lowers; name = U8Read.the-type .name; Got = U8Read.the-type .D; answer = λ r. r .answer; next = λ r. r .next; one = U8Read.the-type .to-one }
+
+abbrev pub u16 : Kind
+u16 = record { enum = U16.the-type; laws = U16′.the-laws; plain = U16′.the-plain; few = tt; lowers = U16′.lowers; name = U16Read.the-type .name; Got = U16Read.the-type .D; answer = λ r. r .answer; next = λ r. r .next; one = U16Read.the-type .to-one }
+
+abbrev pub u32 : Kind
+u32 = record { enum = U32.the-type; laws = U32′.the-laws; plain = U32′.the-plain; few = tt; lowers = U32′.lowers; name = U32Read.the-type .name; Got = U32Read.the-type .D; answer = λ r. r .answer; next = λ r. r .next; one = U32Read.the-type .to-one }
+
+abbrev pub i32 : Kind
+i32 = record { enum = I32.the-type; laws = I32′.the-laws; plain = I32′.the-plain; few = tt; lowers = I32′.lowers; name = I32Read.the-type .name; Got = I32Read.the-type .D; answer = λ r. r .answer; next = λ r. r .next; one = I32Read.the-type .to-one }
+
+abbrev pub u64 : Kind
+u64 = record { enum = U64.the-type; laws = U64′.the-laws; plain = U64′.the-plain; few = tt; lowers = U64′.lowers; name = U64Read.the-type .name; Got = U64Read.the-type .D; answer = λ r. r .answer; next = λ r. r .next; one = U64Read.the-type .to-one }
+
+abbrev pub f32 : Kind
+f32 = record { enum = F32.the-type; laws = F32′.the-laws; plain = F32′.the-plain; few = tt; lowers = F32′.lowers; name = F32Read.the-type .name; Got = F32Read.the-type .D; answer = λ r. r .answer; next = λ r. r .next; one = F32Read.the-type .to-one }
+
+abbrev pub f64 : Kind
+f64 = record { enum = F64.the-type; laws = F64′.the-laws; plain = F64′.the-plain; few = tt; lowers = F64′.lowers; name = F64Read.the-type .name; Got = F64Read.the-type .D; answer = λ r. r .answer; next = λ r. r .next; one = F64Read.the-type .to-one }

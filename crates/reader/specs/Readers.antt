@@ -1,0 +1,17 @@
+-- A reader's place as `bitio`'s window, and what a read leaves of a reader.
+use mathlib.Core.Path.{_≡_}
+use denote.Ref.{now}
+use Rattle.window.specs.declared.Window.{Window}
+use Rattle.window.specs.Parse.{Answer, Parse}
+use Rattle.reader.specs.declared.BitReader.{BitReader}
+
+abbrev pub windowOf : BitReader → Window
+windowOf r = record { start = r .start; position = r .position; length = r .length }
+
+-- the same packet at another window
+abbrev pub movedTo : BitReader → Window → BitReader
+movedTo r w = record { packet = r .packet; start = w .start; position = w .position; length = w .length }
+
+-- The read p at a reader's place answers a, in the paper's terms, and leaves the reader over the same packet where p says.
+abbrev pub Moved : {A B : Type 0} → (B → Window → Answer A) → Parse A → BitReader → B → BitReader → Type 0
+Moved of p before a after = (of a (windowOf after) ≡ p (now (before .packet)) (windowOf before)) × (after .packet ≡ before .packet)
