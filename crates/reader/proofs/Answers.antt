@@ -3,6 +3,7 @@ use mathlib.Core.Path.{_≡_}
 use mathlib.Core.List.{List, [], _∷_}
 use mir.Syntax.{Sym, Ty}
 use mir.Val.{Val}
+use denote.Laws.{Is}
 use denote.RattleType.{RattleType, Denots}
 use denote.Lowered.{Lowered}
 use denote.Enum.Enum.{Few, Plainss, layout}
@@ -15,6 +16,7 @@ use denote.Struct.Struct as plainly
 use Rattle.window.specs.declared.Window.{Window}
 use Rattle.window.proofs.Window as Wi
 use Rattle.window.proofs.Window.Laws as Wi′
+use Rattle.reader.proofs.Places.{windowVal}
 
 -- `name`, `Got` and `one` are the struct's; `enum` and what follows it are the answer's
 pub record Kind : Type 2 where
@@ -54,3 +56,9 @@ module _ (k : Kind) where
 
   abbrev pub gotTy : Ty
   gotTy = plainly.layout (structs.shape got)
+
+  pub answer-is : (r : k .Got) {vs : List Val} → Is (structs.row got) r vs → Is Answered (k .answer r) (answerVal (k .answer r) ∷ [])
+  answer-is r is = LL.owed got gotLaws r _ is .0
+
+  pub next-is : (r : k .Got) {vs : List Val} → Is (structs.row got) r vs → Is Wi.the-row (k .next r) (windowVal (k .next r) ∷ [])
+  next-is r is = LL.owed got gotLaws r _ is .1 .0

@@ -51,7 +51,8 @@ use Rattle.reader.specs.Readers.{windowOf, movedTo, Moved}
 use Rattle.reader.specs.declared.BitReader.{BitReader}
 use Rattle.reader.proofs.BitReader as T
 use Rattle.reader.proofs.BitReader.Laws as T′
-use Rattle.reader.proofs.Answers.{Kind, Answered, answerVal, answerTy, got, gotLaws, gotTy}
+use Rattle.reader.proofs.Answers.{Kind, Answered, answerVal, answerTy, got, gotLaws, gotTy, answer-is, next-is}
+use Rattle.reader.proofs.Calling.{told-fact, routine-meets}
 use Rattle.reader.proofs.Borrowed.{Held, heldVal, Holds, behind, opened, closed}
 use Rattle.reader.proofs.Places.{Type′, Laws′, Row, mach, Own, Packet, name, windowVal, packetVal, window-is, moved-is, lends, moves}
 
@@ -150,15 +151,9 @@ module _ (k : Kind) (w : Width) where
             nothing ! $ owned ! (UInt w) (Is (UInt w)) (uint-makes 𝓤 H A W w) n _ n-is $ fjoin ! $ owned ! Wi.the-row (Is Wi.the-row) (LL.makes Wi.the-type Wi′.the-plain 𝓤 H A) (windowOf d) _ (window-is (named 1) κ′ d g) $ fjoin ! $ move ! (1 ∷ 0 ∷ []) $ fjoin ! $
             move ! (2 ∷ 0 ∷ []) $ use2 W (raw (Promise .pre to)) asked $ frame ! $ done !
 
-        module _ (g : Is (Held κ′) d (heldVal κ′ d ∷ [])) (r : k .Got) (is : Is (row (got k)) r (LL.val (got k) (gotLaws k) r ∷ [])) where
+        module _ (r : k .Got) (is : Is (row (got k)) r (LL.val (got k) (gotLaws k) r ∷ [])) where
           abbrev d′ : BitReader
           d′ = movedTo d (k .next r)
-
-          answer-is : Is (Answered k) (k .answer r) (answerVal k (k .answer r) ∷ [])
-          answer-is = LL.owed (got k) (gotLaws k) r _ is .0
-
-          next-is : Is Wi.the-row (k .next r) (windowVal (k .next r) ∷ [])
-          next-is = LL.owed (got k) (gotLaws k) r _ is .1 .0
 
           exits : Said r → ent 𝓤 (⋆ 𝓤 H A (‵ (fobs γ (Held κ′ .coded .code d′)) ∷ ‵ (fbor κ (Behind (mem (Held κ′)) b o γ)) ∷ ‵ (flft κ q) ∷ Tok ∷ [])) (Post (answerVal k (k .answer r)))
           exits e =
@@ -166,7 +161,7 @@ module _ (k : Kind) (w : Width) where
               suffices ! _ (ends-at 𝓤 H A method stayed moving W (((κ, (κ′, tt)), (q, (q′, tt)), bounds, x, at), tt) (answerVal k (k .answer r)) (k .answer r) (d′, (tt, tt)) (tt, (tt, tt))) $
               says ! (e, refl) $
               move ! (2 ∷ 3 ∷ []) $ join ! $ frame ! $ feqI ! (List Val) (vptr b o ∷ []) (vptr b o ∷ []) refl $ fjoin3 ! $ nothing ! $ owned ! (UInt w) (Is (UInt w)) (uint-makes 𝓤 H A W w) n _ n-is $ fjoin ! $ move ! (1 ∷ 0 ∷ []) $ fjoin ! $
-              owned ! (Answered k) (Is (Answered k)) (EL.makes (k .enum) (k .plain) 𝓤 H A) (k .answer r) _ answer-is $ move ! (1 ∷ 0 ∷ []) $ done !
+              owned ! (Answered k) (Is (Answered k)) (EL.makes (k .enum) (k .plain) 𝓤 H A) (k .answer r) _ (answer-is k r is) $ move ! (1 ∷ 0 ∷ []) $ done !
 
         module _ (f : Name) (C : Calls 𝓤 H) (Λ : Loops 𝓤 H) (fm : FmC 𝓤 H (W .laws) C) (known : Triple 𝓤 (C f) Promise) where
           walk : ent 𝓤 (onEntry 𝓤 H A (method .signature) (κ, (κ′, tt)) (q, (q′, tt)) x at) (WpFn 𝓤 H C Λ (function f) (vptr b o ∷ vint w n ∷ []) Post)
@@ -186,24 +181,22 @@ module _ (k : Kind) (w : Width) where
               move ! (1 ∷ 5 ∷ []) $ use2 W (raw (Promise .pre to) ⊛ ‵ (Holds κ′ d)) (apart g) $ split ! $
               -- [what the call asks; what the reader owns; its cell; the open borrow; obs; auth; true; _9; …]
               calls-at ! fm Promise known to (and-then ! (load ! (from ! (stop !)) (look ! 15 refl)) (and-then ! (load ! (from ! (stop !)) (look ! 7 refl)) (and-then ! (load ! (from ! (stop !)) (look ! 21 refl)) (no-more !)))) (λ u.
-              use1 W (later (some (λ (r : k .Got). (Tok ⊛ ‵ (row (got k) .own r (u ∷ []))) ⊛ raw (ensured 𝓤 H A called reading (κ′, tt) (d .packet, (windowOf d, (n, tt))) tt r)))) (id⊢ 𝓤 _) $ await ! tt $ pick ! (λ r.
-              split ! $ move ! (1 ∷ []) $ use1 W (raw (fact 𝓤 (Said r))) (said r) $ heard ! (Said r) (λ e. split ! $ move ! (1 ∷ []) $
-              peeks ! (row (got k)) (Is (row (got k))) (shows 𝓤 H A (row (got k))) r (u ∷ []) (λ is′. drop ! $
+              told-fact ! tt Tok (row (got k)) (λ r. ensured 𝓤 H A called reading (κ′, tt) (d .packet, (windowOf d, (n, tt))) tt r) u Said said (λ r is′ e.
               let is = LL.owes (got k) (gotLaws k) r (LL.owed (got k) (gotLaws k) r _ is′) in
               -- ['a's token; what the reader owns; its cell; the open borrow; obs; auth; true; _9; …]
               land ! (from ! (stop !)) (init ! 19 refl (LL.lawful (got k) (gotLaws k) 𝓤 H A W .typed r _ is′ .0)) $
               rewrite ! 19 (λ (z : Val). ‵ (fat fullShare (gotTy k) l₃ 0 z)) (ap only (LL.tells (got k) (gotLaws k) r _ is′)) refl $
-              assigns ! (of-opd ! (load ! (from ! (fld ! refl (stop !))) (look-in ! 19 (sub ! 1 refl (whole !))))) (from ! (stop !)) (init ! 17 refl (LL.lawful Wi.the-type Wi′.the-laws 𝓤 H A W .typed (k .next r) _ (next-is g r is) .0)) $
+              assigns ! (of-opd ! (load ! (from ! (fld ! refl (stop !))) (look-in ! 19 (sub ! 1 refl (whole !))))) (from ! (stop !)) (init ! 17 refl (LL.lawful Wi.the-type Wi′.the-laws 𝓤 H A W .typed (k .next r) _ (next-is k r is) .0)) $
               assigns ! (of-opd ! (load ! (from ! (hop ! (look ! 23 refl) (fld ! refl (stop !)))) (look-in ! 2 (sub ! 0 refl (whole !))))) (from ! (stop !)) (store ! 15 refl (tt, wt .1 .0)) $
               assigns ! (agg ! (and-then ! (load ! (from ! (stop !)) (look ! 15 refl)) (and-then ! (load ! (from ! (fld ! refl (stop !))) (look-in ! 17 (sub ! 0 refl (whole !)))) (and-then ! (load ! (from ! (fld ! refl (stop !))) (look-in ! 17 (sub ! 1 refl (whole !)))) (and-then ! (load ! (from ! (fld ! refl (stop !))) (look-in ! 17 (sub ! 2 refl (whole !)))) (no-more !))))))
-              (from ! (hop ! (look ! 23 refl) (stop !))) (store ! 2 refl (LL.lawful (Type′ erased κ′) (Laws′ erased κ′) 𝓤 H A W .typed (d′ g r is) _ (moved-is (named 1) erased κ′ d (k .next r) g (next-is g r is)) .0)) $
-              assigns ! (of-opd ! (load ! (from ! (fld ! refl (stop !))) (look-in ! 19 (sub ! 0 refl (whole !))))) (from ! (stop !)) (init ! 25 refl (EL.lawful (k .enum) (k .laws) 𝓤 H A W (k .few) .typed (k .answer r) _ (answer-is g r is) .0)) $
+              (from ! (hop ! (look ! 23 refl) (stop !))) (store ! 2 refl (LL.lawful (Type′ erased κ′) (Laws′ erased κ′) 𝓤 H A W .typed (d′ r is) _ (moved-is (named 1) erased κ′ d (k .next r) g (next-is k r is)) .0)) $
+              assigns ! (of-opd ! (load ! (from ! (fld ! refl (stop !))) (look-in ! 19 (sub ! 0 refl (whole !))))) (from ! (stop !)) (init ! 25 refl (EL.lawful (k .enum) (k .laws) 𝓤 H A W (k .few) .typed (k .answer r) _ (answer-is k r is) .0)) $
               -- the reader is put together again, and the borrow is closed
-              move ! (1 ∷ 2 ∷ 3 ∷ 4 ∷ 5 ∷ []) $ closed ! tt κ κ′ q b o γ d (k .next r) (next-is g r is) $
+              move ! (1 ∷ 2 ∷ 3 ∷ 4 ∷ 5 ∷ []) $ closed ! tt κ κ′ q b o γ d (k .next r) (next-is k r is) $
               -- [obs; the borrow; 's's token; 'a's; true; _9; …]
               returns ! (look ! 23 refl) $ forget ! 5 refl $ forget ! 7 refl $ forget ! 9 refl $ forget ! 11 refl $ forget ! 13 refl $ forget ! 15 refl $ forget ! 17 refl $ forget ! 19 refl $ forget ! 21 refl $ forget ! 23 refl $
               move ! (23 ∷ 24 ∷ []) $ free1 ! $ move ! (21 ∷ 22 ∷ []) $ free1 ! $ move ! (19 ∷ 20 ∷ []) $ free1 ! $ move ! (17 ∷ 18 ∷ []) $ free1 ! $ move ! (15 ∷ 16 ∷ []) $ free1 ! $ move ! (13 ∷ 14 ∷ []) $ free1 ! $ move ! (11 ∷ 12 ∷ []) $ free1 ! $ move ! (9 ∷ 10 ∷ []) $ free1 ! $ move ! (7 ∷ 8 ∷ []) $ free1 ! $ move ! (5 ∷ 6 ∷ []) $ free1 ! $ free0 ! $
-              keep ! (0 ∷ 1 ∷ 2 ∷ 3 ∷ []) $ by ! (exits g r is e))))))))))))))))
+              keep ! (0 ∷ 1 ∷ 2 ∷ 3 ∷ []) $ by ! (exits r is e))))))))))))))
 
       -- a method with this code, over a call with this promise, meets this contract
       pub meets : (W : Given 𝓤 H A) (f : Name) (𝓣 : Tables 𝓤 H) → Triple 𝓤 (𝓣 .C f) Promise → Meets 𝓤 H A (method .signature) (WpFn 𝓤 H (𝓣 .C) (𝓣 .Λ) (function f)) (closing 𝓤 H A method moving)
@@ -212,11 +205,8 @@ module _ (k : Kind) (w : Width) where
           (λ κs qs bounds a _ are. via 𝓤 _ (fst∗ 𝓤 _ (emp 𝓤)) (walk W (κs .0) (κs .1 .0) (qs .0) (qs .1 .0) bounds (a .0 .ptr .0) (a .0 .ptr .1) (a .0 .name) (a .0 .now) (a .1 .0) (are .1 .0) f (𝓣 .C) (𝓣 .Λ) (fmOf 𝓤 H (W .laws) 𝓣) known)))
 
   -- the same of the method's routine, where the call's routine keeps the promise
-  pub asks-for : {R : Type 0} (of : k .enum .D → Window → Answer R) (p : ℕ → Parse R) {M : Type 1} (𝓤 : URA M) (H : Heap 𝓤) (𝓜 : Model 𝓤 H) (𝓖 : GhostRules 𝓤 H) (𝓡 : Running 𝓤 H 𝓜) (γ : Env) (key f : Name)
+  pub asks-for : {R : Type 0} (of : k .enum .D → Window → Answer R) (p : ℕ → Parse R) {M : Type 1} (𝓤 : URA M) (H : Heap 𝓤) (𝓜 : Model 𝓤 H) (𝓖 : GhostRules 𝓤 H) (𝓡 : Running 𝓤 H 𝓜) (f : Name) (γ : Env) (key : Name)
       → Closed 𝓤 H (tables 𝓤 H 𝓜 𝓡 γ .C) (tables 𝓤 H 𝓜 𝓡 γ .Λ) key (function f)
       → (r : Routine) → γ f ≡ r → Triple 𝓤 (𝓡 .run r) (Promise of p 𝓤 H (𝓖 .A))
       → Meets 𝓤 H (𝓖 .A) (method .signature) (𝓡 .run (γ key)) (closing 𝓤 H (𝓖 .A) method (moving of p 𝓤))
-  unfolding tablesOf
-  asks-for of p 𝓤 H 𝓜 𝓖 𝓡 γ key f unfolded r e met =
-      entered 𝓤 H (tripleOf 𝓤 H (𝓖 .A) (method .signature) (closing 𝓤 H (𝓖 .A) method (moving of p 𝓤))) (tables 𝓤 H 𝓜 𝓡 γ .C) (tables 𝓤 H 𝓜 𝓡 γ .Λ) key (function f) unfolded
-      (meets of p 𝓤 H (𝓖 .A) (givenOf 𝓤 H 𝓜 𝓖) f (tablesOf 𝓤 H 𝓜 (tables 𝓤 H 𝓜 𝓡 γ)) (cited 𝓤 H (Promise of p 𝓤 H (𝓖 .A)) 𝓜 𝓡 γ f r e met))
+  asks-for of p 𝓤 H 𝓜 𝓖 𝓡 f = routine-meets 𝓤 H 𝓜 𝓖 𝓡 (method .signature) (closing 𝓤 H (𝓖 .A) method (moving of p 𝓤)) (Promise of p 𝓤 H (𝓖 .A)) (function f) f (meets of p 𝓤 H (𝓖 .A) (givenOf 𝓤 H 𝓜 𝓖) f)

@@ -1,4 +1,4 @@
--- The answers of `bitio`'s calls, each as a `Kind`.
+-- The answers of `bitio`'s calls: each of those with a next window as a `Kind`, and the plain ones.
 use Rattle.window.proofs.Done as Done
 use Rattle.window.proofs.Done.Laws as Done′
 use Rattle.window.proofs.DoneRead as DoneRead
@@ -26,7 +26,12 @@ use Rattle.window.proofs.F32Read as F32Read
 use Rattle.window.proofs.F64 as F64
 use Rattle.window.proofs.F64.Laws as F64′
 use Rattle.window.proofs.F64Read as F64Read
-use Rattle.reader.proofs.Answers.{Kind}
+use denote.Plain.{uint-lawful, uint-makes, bool-lawful, bool-makes}
+use denote.Builtin as builtin
+use denote.Enum.Laws as EL
+use mir.Syntax.{tyInt, tyBool, w64}
+use Rattle.reader.proofs.Answers.{Kind, Answered, answerTy}
+use Rattle.reader.proofs.Telling.{Plainly}
 
 abbrev pub done : Kind
 done = record { enum = Done.the-type; laws = Done′.the-laws; plain = Done′.the-plain; few = tt; lowers = Done′.lowers; name = DoneRead.the-type .name; Got = DoneRead.the-type .D; answer = λ r. r .answer; next = λ r. r .next; one = DoneRead.the-type .to-one }
@@ -54,3 +59,12 @@ f32 = record { enum = F32.the-type; laws = F32′.the-laws; plain = F32′.the-p
 
 abbrev pub f64 : Kind
 f64 = record { enum = F64.the-type; laws = F64′.the-laws; plain = F64′.the-plain; few = tt; lowers = F64′.lowers; name = F64Read.the-type .name; Got = F64Read.the-type .D; answer = λ r. r .answer; next = λ r. r .next; one = F64Read.the-type .to-one }
+
+abbrev pub number : Plainly
+number = record { row = builtin.u64; ty = tyInt w64; lawful = λ 𝓤 H A W. uint-lawful 𝓤 H A W w64; makes = λ 𝓤 H A W. uint-makes 𝓤 H A W w64 }
+
+abbrev pub flag : Plainly
+flag = record { row = builtin.bool; ty = tyBool; lawful = λ 𝓤 H A W. bool-lawful 𝓤 H A W; makes = λ 𝓤 H A W. bool-makes 𝓤 H A W }
+
+abbrev pub count : Plainly
+count = record { row = Answered u64; ty = answerTy u64; lawful = λ 𝓤 H A W. EL.lawful (u64 .enum) (u64 .laws) 𝓤 H A W tt; makes = λ 𝓤 H A W. EL.makes (u64 .enum) (u64 .plain) 𝓤 H A }

@@ -11,4 +11,4 @@ use Rattle.reader.proofs.BitReader.read_bit.Code as code
 
 pub read-bit-spec : {M : Type 1} → statement M
 unfolding code.routine
-read-bit-spec 𝓤 H 𝓜 𝓖 𝓡 = asks bit bitAnswer readBit 𝓤 H 𝓜 𝓖 𝓡 code.env name asked.name (code.unfolded 𝓤 H 𝓜 𝓡) asked.routine code.calls-bitio·reads·read-bit (asked-thm.met 𝓤 H 𝓜 𝓖 𝓡)
+read-bit-spec 𝓤 H 𝓜 𝓖 𝓡 = asks bit bitAnswer readBit 𝓤 H 𝓜 𝓖 𝓡 asked.name code.env name (code.unfolded 𝓤 H 𝓜 𝓡) asked.routine code.calls-bitio·reads·read-bit (asked-thm.met 𝓤 H 𝓜 𝓖 𝓡)

@@ -12,4 +12,4 @@ use Rattle.reader.proofs.BitReader.read_bits.Code as code
 
 pub read-bits-spec : {M : Type 1} → statement M
 unfolding code.routine
-read-bits-spec 𝓤 H 𝓜 𝓖 𝓡 = asks-for u64 w32 u64Answer readBits 𝓤 H 𝓜 𝓖 𝓡 code.env name asked.name (code.unfolded 𝓤 H 𝓜 𝓡) asked.routine code.calls-bitio·reads·read-bits (asked-thm.met 𝓤 H 𝓜 𝓖 𝓡)
+read-bits-spec 𝓤 H 𝓜 𝓖 𝓡 = asks-for u64 w32 u64Answer readBits 𝓤 H 𝓜 𝓖 𝓡 asked.name code.env name (code.unfolded 𝓤 H 𝓜 𝓡) asked.routine code.calls-bitio·reads·read-bits (asked-thm.met 𝓤 H 𝓜 𝓖 𝓡)

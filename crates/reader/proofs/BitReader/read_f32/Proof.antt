@@ -11,4 +11,4 @@ use Rattle.reader.proofs.BitReader.read_f32.Code as code
 
 pub read-f32-spec : {M : Type 1} → statement M
 unfolding code.routine
-read-f32-spec 𝓤 H 𝓜 𝓖 𝓡 = asks f32 f32Answer readF32 𝓤 H 𝓜 𝓖 𝓡 code.env name asked.name (code.unfolded 𝓤 H 𝓜 𝓡) asked.routine code.calls-bitio·reads·read-f32 (asked-thm.met 𝓤 H 𝓜 𝓖 𝓡)
+read-f32-spec 𝓤 H 𝓜 𝓖 𝓡 = asks f32 f32Answer readF32 𝓤 H 𝓜 𝓖 𝓡 asked.name code.env name (code.unfolded 𝓤 H 𝓜 𝓡) asked.routine code.calls-bitio·reads·read-f32 (asked-thm.met 𝓤 H 𝓜 𝓖 𝓡)

@@ -11,4 +11,4 @@ use Rattle.reader.proofs.BitReader.read_f64.Code as code
 
 pub read-f64-spec : {M : Type 1} → statement M
 unfolding code.routine
-read-f64-spec 𝓤 H 𝓜 𝓖 𝓡 = asks f64 f64Answer readF64 𝓤 H 𝓜 𝓖 𝓡 code.env name asked.name (code.unfolded 𝓤 H 𝓜 𝓡) asked.routine code.calls-bitio·reads·read-f64 (asked-thm.met 𝓤 H 𝓜 𝓖 𝓡)
+read-f64-spec 𝓤 H 𝓜 𝓖 𝓡 = asks f64 f64Answer readF64 𝓤 H 𝓜 𝓖 𝓡 asked.name code.env name (code.unfolded 𝓤 H 𝓜 𝓡) asked.routine code.calls-bitio·reads·read-f64 (asked-thm.met 𝓤 H 𝓜 𝓖 𝓡)

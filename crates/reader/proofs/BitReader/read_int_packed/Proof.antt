@@ -11,4 +11,4 @@ use Rattle.reader.proofs.BitReader.read_int_packed.Code as code
 
 pub read-int-packed-spec : {M : Type 1} → statement M
 unfolding code.routine
-read-int-packed-spec 𝓤 H 𝓜 𝓖 𝓡 = asks u32 u32Answer readPacked 𝓤 H 𝓜 𝓖 𝓡 code.env name asked.name (code.unfolded 𝓤 H 𝓜 𝓡) asked.routine code.calls-bitio·reads·read-int-packed (asked-thm.met 𝓤 H 𝓜 𝓖 𝓡)
+read-int-packed-spec 𝓤 H 𝓜 𝓖 𝓡 = asks u32 u32Answer readPacked 𝓤 H 𝓜 𝓖 𝓡 asked.name code.env name (code.unfolded 𝓤 H 𝓜 𝓡) asked.routine code.calls-bitio·reads·read-int-packed (asked-thm.met 𝓤 H 𝓜 𝓖 𝓡)

@@ -12,4 +12,4 @@ use Rattle.reader.proofs.BitReader.read_serialized_int.Code as code
 
 pub read-serialized-int-spec : {M : Type 1} → statement M
 unfolding code.routine
-read-serialized-int-spec 𝓤 H 𝓜 𝓖 𝓡 = asks-for u32 w32 u32Answer readSerialized 𝓤 H 𝓜 𝓖 𝓡 code.env name asked.name (code.unfolded 𝓤 H 𝓜 𝓡) asked.routine code.calls-bitio·reads·read-serialized-int (asked-thm.met 𝓤 H 𝓜 𝓖 𝓡)
+read-serialized-int-spec 𝓤 H 𝓜 𝓖 𝓡 = asks-for u32 w32 u32Answer readSerialized 𝓤 H 𝓜 𝓖 𝓡 asked.name code.env name (code.unfolded 𝓤 H 𝓜 𝓡) asked.routine code.calls-bitio·reads·read-serialized-int (asked-thm.met 𝓤 H 𝓜 𝓖 𝓡)

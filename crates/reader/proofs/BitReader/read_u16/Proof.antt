@@ -11,4 +11,4 @@ use Rattle.reader.proofs.BitReader.read_u16.Code as code
 
 pub read-u16-spec : {M : Type 1} → statement M
 unfolding code.routine
-read-u16-spec 𝓤 H 𝓜 𝓖 𝓡 = asks u16 u16Answer (readBits 16) 𝓤 H 𝓜 𝓖 𝓡 code.env name asked.name (code.unfolded 𝓤 H 𝓜 𝓡) asked.routine code.calls-bitio·reads·read-u16 (asked-thm.met 𝓤 H 𝓜 𝓖 𝓡)
+read-u16-spec 𝓤 H 𝓜 𝓖 𝓡 = asks u16 u16Answer (readBits 16) 𝓤 H 𝓜 𝓖 𝓡 asked.name code.env name (code.unfolded 𝓤 H 𝓜 𝓡) asked.routine code.calls-bitio·reads·read-u16 (asked-thm.met 𝓤 H 𝓜 𝓖 𝓡)

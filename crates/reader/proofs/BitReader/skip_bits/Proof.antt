@@ -12,4 +12,4 @@ use Rattle.reader.proofs.BitReader.skip_bits.Code as code
 
 pub skip-bits-spec : {M : Type 1} → statement M
 unfolding code.routine
-skip-bits-spec 𝓤 H 𝓜 𝓖 𝓡 = asks-for done w64 doneAnswer skipBits 𝓤 H 𝓜 𝓖 𝓡 code.env name asked.name (code.unfolded 𝓤 H 𝓜 𝓡) asked.routine code.calls-bitio·windows·skip-bits (asked-thm.met 𝓤 H 𝓜 𝓖 𝓡)
+skip-bits-spec 𝓤 H 𝓜 𝓖 𝓡 = asks-for done w64 doneAnswer skipBits 𝓤 H 𝓜 𝓖 𝓡 asked.name code.env name (code.unfolded 𝓤 H 𝓜 𝓡) asked.routine code.calls-bitio·windows·skip-bits (asked-thm.met 𝓤 H 𝓜 𝓖 𝓡)

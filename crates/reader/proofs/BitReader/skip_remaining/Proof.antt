@@ -11,4 +11,4 @@ use Rattle.reader.proofs.BitReader.skip_remaining.Code as code
 
 pub skip-remaining-spec : {M : Type 1} → statement M
 unfolding code.routine
-skip-remaining-spec 𝓤 H 𝓜 𝓖 𝓡 = asks done doneAnswer skipRemaining 𝓤 H 𝓜 𝓖 𝓡 code.env name asked.name (code.unfolded 𝓤 H 𝓜 𝓡) asked.routine code.calls-bitio·windows·skip-remaining (asked-thm.met 𝓤 H 𝓜 𝓖 𝓡)
+skip-remaining-spec 𝓤 H 𝓜 𝓖 𝓡 = asks done doneAnswer skipRemaining 𝓤 H 𝓜 𝓖 𝓡 asked.name code.env name (code.unfolded 𝓤 H 𝓜 𝓡) asked.routine code.calls-bitio·windows·skip-remaining (asked-thm.met 𝓤 H 𝓜 𝓖 𝓡)
