@@ -54,7 +54,7 @@ use Rattle.reader.proofs.BitReader.Laws as T′
 use Rattle.reader.proofs.Answers.{Kind, Answered, answerVal, answerTy, got, gotLaws, gotTy, answer-is, next-is}
 use Rattle.reader.proofs.Calling.{told-fact, routine-meets}
 use Rattle.reader.proofs.Borrowed.{Held, heldVal, Holds, behind, opened, closed}
-use Rattle.reader.proofs.Places.{Type′, Laws′, Row, mach, Own, Packet, name, windowVal, packetVal, window-is, moved-is, lends, moves}
+use Rattle.reader.proofs.Places.{Type′, Laws′, Row, mach, Own, Packet, name, windowVal, packetVal, window-is, over-is, packet-is, lends}
 
 module _ (k : Kind) (w : Width) where
   -- the code: `let read = f(self.packet, Window { .. }, n); let next = read.next; *self = BitReader { packet: self.packet, .. }; read.answer`
@@ -130,7 +130,7 @@ module _ (k : Kind) (w : Width) where
 
         -- what the call is passed
         abbrev passed : Vals (called .signature) (κ′, tt)
-        passed = (packetVal d ∷ [], (windowVal (windowOf d) ∷ [], (vint w n ∷ [], tt)))
+        passed = (packetVal (d .packet) ∷ [], (windowVal (windowOf d) ∷ [], (vint w n ∷ [], tt)))
 
         abbrev to : Promise .Ghost
         to = (((κ′, tt), (q′, tt), tt, (d .packet, (windowOf d, (n, tt))), passed), tt)
@@ -147,7 +147,7 @@ module _ (k : Kind) (w : Width) where
         -- what the reader owns gives what the call asks, and is kept
         apart : Is (Held κ′) d (heldVal κ′ d ∷ []) → ent 𝓤 (⋆ 𝓤 H A (‵ (Holds κ′ d) ∷ Tok ∷ [])) (sep 𝓤 (Promise .pre to) (sem 𝓤 H A (Holds κ′ d)))
         apart g =
-            qed W (‵ (Holds κ′ d) ∷ Tok ∷ []) ∵ use1 W (‵ (Packet (named 1) κ′ d) ⊛ ‵ (Holds κ′ d)) (lends 𝓤 H A W (named 1) κ′ d) $ split ! $
+            qed W (‵ (Holds κ′ d) ∷ Tok ∷ []) ∵ use1 W (‵ (Packet (named 1) κ′ (d .packet)) ⊛ ‵ (Holds κ′ d)) (lends 𝓤 H A W (named 1) κ′ d) $ split ! $
             nothing ! $ owned ! (UInt w) (Is (UInt w)) (uint-makes 𝓤 H A W w) n _ n-is $ fjoin ! $ owned ! Wi.the-row (Is Wi.the-row) (LL.makes Wi.the-type Wi′.the-plain 𝓤 H A) (windowOf d) _ (window-is (named 1) κ′ d g) $ fjoin ! $ move ! (1 ∷ 0 ∷ []) $ fjoin ! $
             move ! (2 ∷ 0 ∷ []) $ use2 W (raw (Promise .pre to)) asked $ frame ! $ done !
 
@@ -189,7 +189,7 @@ module _ (k : Kind) (w : Width) where
               assigns ! (of-opd ! (load ! (from ! (fld ! refl (stop !))) (look-in ! 19 (sub ! 1 refl (whole !))))) (from ! (stop !)) (init ! 17 refl (LL.lawful Wi.the-type Wi′.the-laws 𝓤 H A W .typed (k .next r) _ (next-is k r is) .0)) $
               assigns ! (of-opd ! (load ! (from ! (hop ! (look ! 23 refl) (fld ! refl (stop !)))) (look-in ! 2 (sub ! 0 refl (whole !))))) (from ! (stop !)) (store ! 15 refl (tt, wt .1 .0)) $
               assigns ! (agg ! (and-then ! (load ! (from ! (stop !)) (look ! 15 refl)) (and-then ! (load ! (from ! (fld ! refl (stop !))) (look-in ! 17 (sub ! 0 refl (whole !)))) (and-then ! (load ! (from ! (fld ! refl (stop !))) (look-in ! 17 (sub ! 1 refl (whole !)))) (and-then ! (load ! (from ! (fld ! refl (stop !))) (look-in ! 17 (sub ! 2 refl (whole !)))) (no-more !))))))
-              (from ! (hop ! (look ! 23 refl) (stop !))) (store ! 2 refl (LL.lawful (Type′ erased κ′) (Laws′ erased κ′) 𝓤 H A W .typed (d′ r is) _ (moved-is (named 1) erased κ′ d (k .next r) g (next-is k r is)) .0)) $
+              (from ! (hop ! (look ! 23 refl) (stop !))) (store ! 2 refl (LL.lawful (Type′ erased κ′) (Laws′ erased κ′) 𝓤 H A W .typed (d′ r is) _ (over-is (named 1) erased κ′ (d .packet) (k .next r) (packet-is (named 1) κ′ d g) (next-is k r is)) .0)) $
               assigns ! (of-opd ! (load ! (from ! (fld ! refl (stop !))) (look-in ! 19 (sub ! 0 refl (whole !))))) (from ! (stop !)) (init ! 25 refl (EL.lawful (k .enum) (k .laws) 𝓤 H A W (k .few) .typed (k .answer r) _ (answer-is k r is) .0)) $
               -- the reader is put together again, and the borrow is closed
               move ! (1 ∷ 2 ∷ 3 ∷ 4 ∷ 5 ∷ []) $ closed ! tt κ κ′ q b o γ d (k .next r) (next-is k r is) $

@@ -6,3 +6,5 @@ pub mod Calling
 pub mod Asking
 pub mod AskingFor
 pub mod Telling
+pub mod Handing
+pub mod Opens

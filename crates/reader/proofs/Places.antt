@@ -15,7 +15,7 @@ use denote.RattleType.{RattleType}
 use denote.Laws.{Is}
 use denote.Plain.{uint-makes}
 use denote.Builtin.{u8, u64}
-use denote.Ref.{NamedLft}
+use denote.Ref.{RefT, NamedLft}
 use denote.Slice.{sliceVal, ShrSlice}
 use denote.Steps.{owned, nothing}
 use denote.Struct.Declared.{Declared}
@@ -29,7 +29,7 @@ use Rattle.window.proofs.WindowBit as WB
 use Rattle.window.proofs.WindowBit.Laws as WB′
 use Rattle.window.proofs.Window as Wi
 use Rattle.window.proofs.Window.Laws as Wi′
-use Rattle.reader.specs.Readers.{windowOf, movedTo}
+use Rattle.reader.specs.Readers.{windowOf, over, movedTo}
 use Rattle.reader.specs.declared.BitReader.{BitReader}
 use Rattle.reader.proofs.BitReader as T
 use Rattle.reader.proofs.BitReader.Laws as T′
@@ -63,38 +63,41 @@ name = T.the-type (at erased []) .name
 abbrev pub windowVal : Window → Val
 windowVal = LL.val Wi.the-type Wi′.the-laws
 
-abbrev pub packetVal : BitReader → Val
-packetVal d = sliceVal (d .packet .ptr) (length (d .packet .now))
+abbrev pub packetVal : RefT (List ℕ) → Val
+packetVal s = sliceVal (s .ptr) (length (s .now))
 
 -- what the slice owns
-abbrev pub Packet : Lifetime → Lft → BitReader → Fml
-Packet ℓ κ d = ShrSlice ℓ κ u8 .own (d .packet) (packetVal d ∷ [])
+abbrev pub Packet : Lifetime → Lft → RefT (List ℕ) → Fml
+Packet ℓ κ s = ShrSlice ℓ κ u8 .own s (packetVal s ∷ [])
 
 -- a reader's three numbers are a window's
 pub window-is : (ℓ : Lifetime) (κ : Lft) (d : BitReader) {vs : List Val} → Is (Row ℓ κ) d vs → Is Wi.the-row (windowOf d) (windowVal (windowOf d) ∷ [])
 window-is ℓ κ d g = LL.owes Wi.the-type Wi′.the-laws (windowOf d) (LL.owed (Type′ ℓ κ) (Laws′ ℓ κ) d _ g .1)
 
--- and a window's are a reader's, over the same packet
-pub moved-is : (ℓ ℓ′ : Lifetime) (κ : Lft) (d : BitReader) (w : Window) {vs us : List Val} → Is (Row ℓ κ) d vs → Is Wi.the-row w us → Is (Row ℓ′ κ) (movedTo d w) (mach ℓ′ κ (movedTo d w) ∷ [])
-moved-is ℓ ℓ′ κ d w g h = LL.owes (Type′ ℓ′ κ) (Laws′ ℓ′ κ) (movedTo d w) (LL.owed (Type′ ℓ κ) (Laws′ ℓ κ) d _ g .0, LL.owed Wi.the-type Wi′.the-laws w _ h)
+-- and a window's, over a slice, are a reader's
+pub over-is : (ℓ ℓ′ : Lifetime) (κ : Lft) (s : RefT (List ℕ)) (w : Window) {us : List Val} → Is (ShrSlice ℓ κ u8) s (packetVal s ∷ []) → Is Wi.the-row w us → Is (Row ℓ′ κ) (over s w) (mach ℓ′ κ (over s w) ∷ [])
+over-is ℓ ℓ′ κ s w g h = LL.owes (Type′ ℓ′ κ) (Laws′ ℓ′ κ) (over s w) (g, LL.owed Wi.the-type Wi′.the-laws w _ h)
 
-module _ {M : Type 1} (𝓤 : URA M) (H : Heap 𝓤) (A : Atoms 𝓤) (W : Given 𝓤 H A) (ℓ : Lifetime) (κ : Lft) (d : BitReader) where
+pub packet-is : (ℓ : Lifetime) (κ : Lft) (d : BitReader) {vs : List Val} → Is (Row ℓ κ) d vs → Is (ShrSlice ℓ κ u8) (d .packet) (packetVal (d .packet) ∷ [])
+packet-is ℓ κ d g = LL.owed (Type′ ℓ κ) (Laws′ ℓ κ) d _ g .0
+
+module _ {M : Type 1} (𝓤 : URA M) (H : Heap 𝓤) (A : Atoms 𝓤) (W : Given 𝓤 H A) (ℓ : Lifetime) (κ : Lft) where
   -- the slice, and the reader kept
-  pub lends : ent 𝓤 (sem 𝓤 H A (Own ℓ κ d)) (sep 𝓤 (sem 𝓤 H A (Packet ℓ κ d)) (sem 𝓤 H A (Own ℓ κ d)))
-  lends =
+  pub lends : (d : BitReader) → ent 𝓤 (sem 𝓤 H A (Own ℓ κ d)) (sep 𝓤 (sem 𝓤 H A (Packet ℓ κ (d .packet))) (sem 𝓤 H A (Own ℓ κ d)))
+  lends d =
       qed W (‵ (Own ℓ κ d) ∷ []) ∵ use1 W (‵ (Own ℓ κ d) ⊛ ‵ (Own ℓ κ d)) (LL.copy (Type′ ℓ κ) (T′.the-copy (at ℓ κ)) 𝓤 H A W .twice d (mach ℓ κ d ∷ [])) $ split ! $
       use1 W (given (mach ℓ κ d ∷ [] ≡ mach ℓ κ d ∷ []) (‵ (all-own (Type′ ℓ κ .parts) (Laws′ ℓ κ) (parts ℓ κ d)))) (own-open 𝓤 H A W (Type′ ℓ κ) (Laws′ ℓ κ) (parts ℓ κ d) (mach ℓ κ d)) $ learn ! (λ _. fsplit ! $
       move ! (1 ∷ []) $ drop ! $ frame ! $ done !)
 
   -- the slice in a reader at the window w
-  pub holds : (w : Window) {us : List Val} → Is Wi.the-row w us → ent 𝓤 (sem 𝓤 H A (Packet ℓ κ d)) (sem 𝓤 H A (Own ℓ κ (movedTo d w)))
-  holds w h =
+  pub holds : (s : RefT (List ℕ)) (w : Window) {us : List Val} → Is Wi.the-row w us → ent 𝓤 (sem 𝓤 H A (Packet ℓ κ s)) (sem 𝓤 H A (Own ℓ κ (over s w)))
+  holds s w h =
       let nums = LL.owed Wi.the-type Wi′.the-laws w _ h in
-      qed W (‵ (Packet ℓ κ d) ∷ []) ∵ nothing ! $ owned ! u64 (Is u64) (uint-makes 𝓤 H A W w64) (w .length) _ (nums .1 .1 .0) $ fjoin ! $
+      qed W (‵ (Packet ℓ κ s) ∷ []) ∵ nothing ! $ owned ! u64 (Is u64) (uint-makes 𝓤 H A W w64) (w .length) _ (nums .1 .1 .0) $ fjoin ! $
       owned ! WB.the-row (Is WB.the-row) (LL.makes WB.the-type WB′.the-plain 𝓤 H A) (w .position) _ (nums .1 .0) $ fjoin ! $
       owned ! PB.the-row (Is PB.the-row) (LL.makes PB.the-type PB′.the-plain 𝓤 H A) (w .start) _ (nums .0) $ fjoin ! $ move ! (1 ∷ 0 ∷ []) $ fjoin ! $
-      by ! (own-shut 𝓤 H A W (Type′ ℓ κ) (Laws′ ℓ κ) (parts ℓ κ (movedTo d w)))
+      by ! (own-shut 𝓤 H A W (Type′ ℓ κ) (Laws′ ℓ κ) (parts ℓ κ (over s w)))
 
   -- what a reader owns at one place it owns at another
-  pub moves : (w : Window) {us : List Val} → Is Wi.the-row w us → ent 𝓤 (sem 𝓤 H A (Own ℓ κ d)) (sem 𝓤 H A (Own ℓ κ (movedTo d w)))
-  moves w h = qed W (‵ (Own ℓ κ d) ∷ []) ∵ use1 W (‵ (Packet ℓ κ d) ⊛ ‵ (Own ℓ κ d)) lends $ split ! $ move ! (1 ∷ []) $ drop ! $ by ! (holds w h)
+  pub moves : (d : BitReader) (w : Window) {us : List Val} → Is Wi.the-row w us → ent 𝓤 (sem 𝓤 H A (Own ℓ κ d)) (sem 𝓤 H A (Own ℓ κ (movedTo d w)))
+  moves d w h = qed W (‵ (Own ℓ κ d) ∷ []) ∵ use1 W (‵ (Packet ℓ κ (d .packet)) ⊛ ‵ (Own ℓ κ d)) (lends d) $ split ! $ move ! (1 ∷ []) $ drop ! $ by ! (holds (d .packet) w h)

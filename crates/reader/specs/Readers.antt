@@ -1,6 +1,8 @@
 -- A reader's place as `bitio`'s window, and what a read leaves of a reader.
 use mathlib.Core.Path.{_≡_}
-use denote.Ref.{now}
+use Prim.Native.Nat.{ℕ}
+use mathlib.Core.List.{List}
+use denote.Ref.{RefT, now}
 use Rattle.window.specs.declared.Window.{Window}
 use Rattle.window.specs.Parse.{Answer, Parse}
 use Rattle.reader.specs.declared.BitReader.{BitReader}
@@ -8,9 +10,12 @@ use Rattle.reader.specs.declared.BitReader.{BitReader}
 abbrev pub windowOf : BitReader → Window
 windowOf r = record { start = r .start; position = r .position; length = r .length }
 
--- the same packet at another window
+-- a reader over a packet's slice, and the same packet at another window
+abbrev pub over : RefT (List ℕ) → Window → BitReader
+over s w = record { packet = s; start = w .start; position = w .position; length = w .length }
+
 abbrev pub movedTo : BitReader → Window → BitReader
-movedTo r w = record { packet = r .packet; start = w .start; position = w .position; length = w .length }
+movedTo r w = over (r .packet) w
 
 -- The read p at a reader's place answers a, in the paper's terms, and leaves the reader over the same packet where p says.
 abbrev pub Moved : {A B : Type 0} → (B → Window → Answer A) → Parse A → BitReader → B → BitReader → Type 0

@@ -1,4 +1,5 @@
 // A bit reader that keeps its packet's slice with its place in it. Follows `BitReader` of vrf-bitio/src/lib.rs.
+use window::Done;
 use window::PacketBit;
 use window::WindowBit;
 
@@ -11,4 +12,11 @@ pub struct BitReader<'a> {
     pub start: PacketBit,
     pub position: WindowBit,
     pub length: u64,
+}
+
+// What opening a reader answers: the Rust's result. An enum can't hold a reference, so the reader stands beside the answer;
+// where the answer is a refusal, it is a reader of no bits.
+pub struct Opening<'a> {
+    pub answer: Done,
+    pub reader: BitReader<'a>,
 }

@@ -1,15 +1,85 @@
-// A reader's window: where it stands, and moving in it without reading.
+// A reader's window, in the order of vrf-bitio/src/lib.rs: opening it, where it stands, and moving in it without reading.
 ghost use mathlib.Core.Path.{_≡_};
-ghost use Rattle.window.specs.Windows.{bitsRemaining, atEnd, skipBits, skipRemaining};
-ghost use Rattle.window.specs.Answers.{doneAnswer, ofCount};
+ghost use Rattle.window.specs.Windows.{newWindow, withBitLen, bitsRemaining, atEnd, skipBits, skipRemaining};
+ghost use Rattle.window.specs.Answers.{doneAnswer, ofCount, ofOpened};
 ghost use Rattle.reader.specs.Readers.{windowOf, Moved};
+ghost use Rattle.reader.specs.Openings.{Opens};
 use crate::BitReader;
+use crate::Opening;
 use bitio::windows;
 use window::Done;
+use window::DoneRead;
+use window::Opened;
+use window::PacketBit;
 use window::U64;
 use window::Window;
+use window::WindowBit;
+
+// The enum taken apart: the answer, and the window that a reader is made of.
+fn taken_apart(opened: Opened) -> DoneRead
+    ensures { λ r. ⌜ Opens (ofOpened opened) (r .answer) (r .next) ⌝ }
+{
+    match opened {
+        Opened::Value(next) => DoneRead {
+            answer: Done::Value,
+            next,
+        },
+        Opened::Refused(e) => DoneRead {
+            answer: Done::Refused(e),
+            next: Window {
+                start: PacketBit(0),
+                position: WindowBit(0),
+                length: 0,
+            },
+        },
+    }
+}
+
+fn whole(packet: &[u8]) -> DoneRead
+    ensures { λ r. ⌜ Opens (newWindow (now (packet .entry))) (r .answer) (r .next) ⌝ }
+{
+    taken_apart(windows::new(packet))
+}
+
+fn front(packet: &[u8], bit_len: u64) -> DoneRead
+    ensures { λ r. ⌜ Opens (withBitLen (now (packet .entry)) «bit_len») (r .answer) (r .next) ⌝ }
+{
+    taken_apart(windows::with_bit_len(packet, bit_len))
+}
 
 impl<'a> BitReader<'a> {
+    pub fn new(packet: &'a [u8]) -> Opening<'a>
+        ensures { λ r. ⌜ Opens (newWindow (now (packet .entry))) (r .answer) (windowOf (r .reader)) × (r .reader .packet ≡ packet .entry) ⌝ }
+    {
+        let opened = whole(packet);
+        let window = opened.next;
+        Opening {
+            answer: opened.answer,
+            reader: BitReader {
+                packet,
+                start: window.start,
+                position: window.position,
+                length: window.length,
+            },
+        }
+    }
+
+    pub fn with_bit_len(packet: &'a [u8], bit_len: u64) -> Opening<'a>
+        ensures { λ r. ⌜ Opens (withBitLen (now (packet .entry)) «bit_len») (r .answer) (windowOf (r .reader)) × (r .reader .packet ≡ packet .entry) ⌝ }
+    {
+        let opened = front(packet, bit_len);
+        let window = opened.next;
+        Opening {
+            answer: opened.answer,
+            reader: BitReader {
+                packet,
+                start: window.start,
+                position: window.position,
+                length: window.length,
+            },
+        }
+    }
+
     pub fn position(&self) -> u64
         ensures { λ r. ⌜ r ≡ now (self .entry) .position .0 ⌝ }
     {
