@@ -1,9 +1,9 @@
 // A reader's window, in the order of vrf-bitio/src/lib.rs: opening it, where it stands, and moving in it without reading.
 ghost use mathlib.Core.Path.{_≡_};
-ghost use Rattle.window.specs.Windows.{newWindow, withBitLen, bitsRemaining, atEnd, skipBits, skipRemaining};
+ghost use Rattle.window.specs.Windows.{newWindow, withBitLen, bitsRemaining, atEnd, subReader, skipBits, skipRemaining};
 ghost use Rattle.window.specs.Answers.{doneAnswer, ofCount, ofOpened};
 ghost use Rattle.reader.specs.Readers.{windowOf, Moved};
-ghost use Rattle.reader.specs.Openings.{Opens};
+ghost use Rattle.reader.specs.Openings.{Opens, Cuts, Handed};
 use crate::BitReader;
 use crate::Opening;
 use bitio::windows;
@@ -45,6 +45,29 @@ fn front(packet: &[u8], bit_len: u64) -> DoneRead
     ensures { λ r. ⌜ Opens (withBitLen (now (packet .entry)) «bit_len») (r .answer) (r .next) ⌝ }
 {
     taken_apart(windows::with_bit_len(packet, bit_len))
+}
+
+// What cutting a window out answers: the answer, the window that was cut out, and where the reader then stands.
+struct Cut {
+    answer: Done,
+    child: Window,
+    next: Window,
+}
+
+fn cut_out(packet: &[u8], w: Window, count: u64) -> Cut
+    ensures { λ r. ⌜ Cuts (subReader count (now (packet .entry)) w) (r .answer) (r .child) (r .next) ⌝ }
+{
+    let read = windows::sub_reader(packet, w, count);
+    let answer = read.answer;
+    let next = read.next;
+    let opened = taken_apart(answer);
+    let child = opened.next;
+    let done = opened.answer;
+    Cut {
+        answer: done,
+        child,
+        next,
+    }
 }
 
 impl<'a> BitReader<'a> {
@@ -118,6 +141,37 @@ impl<'a> BitReader<'a> {
             position: self.position,
             length: self.length,
         })
+    }
+
+    pub fn sub_reader(&mut self, count: u64) -> Opening<'a>
+        ensures { λ r. ⌜ Handed (subReader count) (now (self .entry)) r (now (self .exit)) ⌝ }
+    {
+        let read = cut_out(
+            self.packet,
+            Window {
+                start: self.start,
+                position: self.position,
+                length: self.length,
+            },
+            count,
+        );
+        let next = read.next;
+        let child = read.child;
+        *self = BitReader {
+            packet: self.packet,
+            start: next.start,
+            position: next.position,
+            length: next.length,
+        };
+        Opening {
+            answer: read.answer,
+            reader: BitReader {
+                packet: self.packet,
+                start: child.start,
+                position: child.position,
+                length: child.length,
+            },
+        }
     }
 
     pub fn skip_bits(&mut self, count: u64) -> Done
