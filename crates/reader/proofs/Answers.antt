@@ -9,7 +9,7 @@ use denote.Lowered.{Lowered}
 use denote.Enum.Enum.{Few, Plainss, layout}
 use denote.Enum.Declared as enums
 use denote.Enum.Laws as EL
-use denote.Struct.Field.{Field, rows}
+use denote.Struct.Field.{rows}
 use denote.Struct.Declared as structs
 use denote.Struct.Laws as LL
 use denote.Struct.Struct as plainly

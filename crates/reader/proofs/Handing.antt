@@ -16,7 +16,6 @@ use denote.Ref.{RefT}
 use denote.Slice.{ShrSlice}
 use denote.Steps.{owned, nothing}
 use denote.Enum.Laws as EL
-use denote.Struct.Declared.{Declared}
 use denote.Struct.Laws as LL
 use denote.Struct.Rest.{own-shut}
 use Rattle.window.specs.declared.Done.{Done}

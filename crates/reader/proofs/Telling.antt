@@ -30,7 +30,7 @@ use denote.Struct.Laws as LL
 use denote.Struct.Steps.{spelt}
 use denote.Triple.Statement.{Contract, Triple}
 use denote.Triple.Call.{calls-at}
-use denote.Triple.Entry.{Vals, onEntry}
+use denote.Triple.Entry.{onEntry}
 use denote.Triple.Spec.{Meets, tripleOf}
 use denote.Triple.Walked.{says, Stays, stay-none-ref, walkOf, goes-none-ref, ends-at, walked, walk-meets}
 use denote.Exit.{yes}
@@ -43,7 +43,7 @@ use Rattle.window.proofs.Window.Laws as Wi′
 use Rattle.reader.specs.Readers.{windowOf}
 use Rattle.reader.specs.declared.BitReader.{BitReader}
 use Rattle.reader.proofs.BitReader.Laws as T′
-use Rattle.reader.proofs.Borrowed.{Held, heldVal, Holds, behind}
+use Rattle.reader.proofs.Borrowed.{Held, heldVal, behind}
 use Rattle.reader.proofs.Calling.{told-fact, routine-meets}
 use Rattle.reader.proofs.Places.{at, Type′, Laws′, name, windowVal, window-is}
 

@@ -3,6 +3,7 @@ use window::Done;
 use window::PacketBit;
 use window::WindowBit;
 
+pub mod copies;
 pub mod reads;
 pub mod windows;
 

@@ -1,5 +1,4 @@
 -- What `bitio` cuts out, taken apart.
-use mathlib.Core.Path.{_≡_, refl, ap}
 use borrow.Author.Needs.{needs}
 use Rattle.window.specs.declared.Done.{Done}
 use Rattle.window.specs.declared.Opened.{Opened}
