@@ -26,6 +26,7 @@ use Rattle.window.proofs.F32Read as F32Read
 use Rattle.window.proofs.F64 as F64
 use Rattle.window.proofs.F64.Laws as F64′
 use Rattle.window.proofs.F64Read as F64Read
+use mathlib.Core.Path.{refl}
 use denote.Plain.{uint-lawful, uint-makes, bool-lawful, bool-makes}
 use denote.Builtin as builtin
 use denote.Enum.Laws as EL
@@ -34,31 +35,31 @@ use Rattle.reader.proofs.Answers.{Kind, Answered, answerTy}
 use Rattle.reader.proofs.Telling.{Plainly}
 
 abbrev pub done : Kind
-done = record { enum = Done.the-type; laws = Done′.the-laws; plain = Done′.the-plain; few = tt; lowers = Done′.lowers; name = DoneRead.the-type .name; Got = DoneRead.the-type .D; answer = λ r. r .answer; next = λ r. r .next; one = DoneRead.the-type .to-one }
+done = record { enum = Done.the-type; laws = Done′.the-laws; plain = Done′.the-plain; few = tt; lowers = Done′.lowers; name = DoneRead.the-type .name; Got = DoneRead.the-type .D; answer = λ r. r .answer; next = λ r. r .next; make = λ a w. record { answer = a; next = w }; makes = λ a w. (refl, refl); one = DoneRead.the-type .to-one }
 
 abbrev pub bit : Kind
-bit = record { enum = Bit.the-type; laws = Bit′.the-laws; plain = Bit′.the-plain; few = tt; lowers = Bit′.lowers; name = BitRead.the-type .name; Got = BitRead.the-type .D; answer = λ r. r .answer; next = λ r. r .next; one = BitRead.the-type .to-one }
+bit = record { enum = Bit.the-type; laws = Bit′.the-laws; plain = Bit′.the-plain; few = tt; lowers = Bit′.lowers; name = BitRead.the-type .name; Got = BitRead.the-type .D; answer = λ r. r .answer; next = λ r. r .next; make = λ a w. record { answer = a; next = w }; makes = λ a w. (refl, refl); one = BitRead.the-type .to-one }
 
 abbrev pub u8 : Kind
-u8 = record { enum = U8.the-type; laws = U8′.the-laws; plain = U8′.the-plain; few = tt; lowers = U8′.lowers; name = U8Read.the-type .name; Got = U8Read.the-type .D; answer = λ r. r .answer; next = λ r. r .next; one = U8Read.the-type .to-one }
+u8 = record { enum = U8.the-type; laws = U8′.the-laws; plain = U8′.the-plain; few = tt; lowers = U8′.lowers; name = U8Read.the-type .name; Got = U8Read.the-type .D; answer = λ r. r .answer; next = λ r. r .next; make = λ a w. record { answer = a; next = w }; makes = λ a w. (refl, refl); one = U8Read.the-type .to-one }
 
 abbrev pub u16 : Kind
-u16 = record { enum = U16.the-type; laws = U16′.the-laws; plain = U16′.the-plain; few = tt; lowers = U16′.lowers; name = U16Read.the-type .name; Got = U16Read.the-type .D; answer = λ r. r .answer; next = λ r. r .next; one = U16Read.the-type .to-one }
+u16 = record { enum = U16.the-type; laws = U16′.the-laws; plain = U16′.the-plain; few = tt; lowers = U16′.lowers; name = U16Read.the-type .name; Got = U16Read.the-type .D; answer = λ r. r .answer; next = λ r. r .next; make = λ a w. record { answer = a; next = w }; makes = λ a w. (refl, refl); one = U16Read.the-type .to-one }
 
 abbrev pub u32 : Kind
-u32 = record { enum = U32.the-type; laws = U32′.the-laws; plain = U32′.the-plain; few = tt; lowers = U32′.lowers; name = U32Read.the-type .name; Got = U32Read.the-type .D; answer = λ r. r .answer; next = λ r. r .next; one = U32Read.the-type .to-one }
+u32 = record { enum = U32.the-type; laws = U32′.the-laws; plain = U32′.the-plain; few = tt; lowers = U32′.lowers; name = U32Read.the-type .name; Got = U32Read.the-type .D; answer = λ r. r .answer; next = λ r. r .next; make = λ a w. record { answer = a; next = w }; makes = λ a w. (refl, refl); one = U32Read.the-type .to-one }
 
 abbrev pub i32 : Kind
-i32 = record { enum = I32.the-type; laws = I32′.the-laws; plain = I32′.the-plain; few = tt; lowers = I32′.lowers; name = I32Read.the-type .name; Got = I32Read.the-type .D; answer = λ r. r .answer; next = λ r. r .next; one = I32Read.the-type .to-one }
+i32 = record { enum = I32.the-type; laws = I32′.the-laws; plain = I32′.the-plain; few = tt; lowers = I32′.lowers; name = I32Read.the-type .name; Got = I32Read.the-type .D; answer = λ r. r .answer; next = λ r. r .next; make = λ a w. record { answer = a; next = w }; makes = λ a w. (refl, refl); one = I32Read.the-type .to-one }
 
 abbrev pub u64 : Kind
-u64 = record { enum = U64.the-type; laws = U64′.the-laws; plain = U64′.the-plain; few = tt; lowers = U64′.lowers; name = U64Read.the-type .name; Got = U64Read.the-type .D; answer = λ r. r .answer; next = λ r. r .next; one = U64Read.the-type .to-one }
+u64 = record { enum = U64.the-type; laws = U64′.the-laws; plain = U64′.the-plain; few = tt; lowers = U64′.lowers; name = U64Read.the-type .name; Got = U64Read.the-type .D; answer = λ r. r .answer; next = λ r. r .next; make = λ a w. record { answer = a; next = w }; makes = λ a w. (refl, refl); one = U64Read.the-type .to-one }
 
 abbrev pub f32 : Kind
-f32 = record { enum = F32.the-type; laws = F32′.the-laws; plain = F32′.the-plain; few = tt; lowers = F32′.lowers; name = F32Read.the-type .name; Got = F32Read.the-type .D; answer = λ r. r .answer; next = λ r. r .next; one = F32Read.the-type .to-one }
+f32 = record { enum = F32.the-type; laws = F32′.the-laws; plain = F32′.the-plain; few = tt; lowers = F32′.lowers; name = F32Read.the-type .name; Got = F32Read.the-type .D; answer = λ r. r .answer; next = λ r. r .next; make = λ a w. record { answer = a; next = w }; makes = λ a w. (refl, refl); one = F32Read.the-type .to-one }
 
 abbrev pub f64 : Kind
-f64 = record { enum = F64.the-type; laws = F64′.the-laws; plain = F64′.the-plain; few = tt; lowers = F64′.lowers; name = F64Read.the-type .name; Got = F64Read.the-type .D; answer = λ r. r .answer; next = λ r. r .next; one = F64Read.the-type .to-one }
+f64 = record { enum = F64.the-type; laws = F64′.the-laws; plain = F64′.the-plain; few = tt; lowers = F64′.lowers; name = F64Read.the-type .name; Got = F64Read.the-type .D; answer = λ r. r .answer; next = λ r. r .next; make = λ a w. record { answer = a; next = w }; makes = λ a w. (refl, refl); one = F64Read.the-type .to-one }
 
 abbrev pub number : Plainly
 number = record { row = builtin.u64; ty = tyInt w64; lawful = λ 𝓤 H A W. uint-lawful 𝓤 H A W w64; makes = λ 𝓤 H A W. uint-makes 𝓤 H A W w64 }

@@ -8,3 +8,5 @@ pub mod AskingFor
 pub mod Telling
 pub mod Handing
 pub mod Opens
+pub mod Lent
+pub mod Through

@@ -4,6 +4,7 @@ use window::PacketBit;
 use window::WindowBit;
 
 pub mod copies;
+pub mod plain;
 pub mod reads;
 pub mod windows;
 
