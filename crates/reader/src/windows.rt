@@ -59,14 +59,14 @@ fn cut_out(packet: &[u8], w: Window, count: u64) -> Cut
 {
     let read = windows::sub_reader(packet, w, count);
     let answer = read.answer;
-    let next = read.next;
+    let behind = read.next;
     let opened = taken_apart(answer);
     let child = opened.next;
     let done = opened.answer;
     Cut {
         answer: done,
         child,
-        next,
+        next: behind,
     }
 }
 
