@@ -1,0 +1,62 @@
+// Reads through the reader that keeps its packet's slice, for C and Rust: each writes the seven words of its answer (crates/answers).
+ghost use mathlib.Core.Path.{_≡_};
+ghost use Rattle.window.specs.Reads.{readBits, readPacked, readSerialized};
+ghost use Rattle.answers.specs.Words.{windowAt, words, one};
+use answers::words;
+use answers::words::Words;
+use reader::plain;
+
+#[no_mangle]
+pub extern "C" fn gritwheel_reader_read_bits(
+    bytes: &[u8],
+    start: u64,
+    position: u64,
+    length: u64,
+    count: u32,
+    out: &mut Words,
+)
+    ensures { λ r. ⌜ now (out .exit) ≡ words one (readBits count (now (bytes .entry)) (windowAt start position length)) ⌝ }
+{
+    let answer = words::of_u64(plain::read_bits(
+        bytes,
+        words::window_at(start, position, length),
+        count,
+    ));
+    *out = answer;
+}
+
+#[no_mangle]
+pub extern "C" fn gritwheel_reader_read_int_packed(
+    bytes: &[u8],
+    start: u64,
+    position: u64,
+    length: u64,
+    out: &mut Words,
+)
+    ensures { λ r. ⌜ now (out .exit) ≡ words one (readPacked (now (bytes .entry)) (windowAt start position length)) ⌝ }
+{
+    let answer = words::of_u32(plain::read_int_packed(
+        bytes,
+        words::window_at(start, position, length),
+    ));
+    *out = answer;
+}
+
+#[no_mangle]
+pub extern "C" fn gritwheel_reader_read_serialized_int(
+    bytes: &[u8],
+    start: u64,
+    position: u64,
+    length: u64,
+    max: u32,
+    out: &mut Words,
+)
+    ensures { λ r. ⌜ now (out .exit) ≡ words one (readSerialized max (now (bytes .entry)) (windowAt start position length)) ⌝ }
+{
+    let answer = words::of_u32(plain::read_serialized_int(
+        bytes,
+        words::window_at(start, position, length),
+        max,
+    ));
+    *out = answer;
+}
