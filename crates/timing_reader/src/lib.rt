@@ -1,0 +1,146 @@
+// Many reads in one call, for bench/ to time: through `bitio`'s public calls, and through the reader that keeps its slice. Both promise what crates/timing promises.
+ghost use mathlib.Core.Path.{_≡_};
+ghost use Rattle.timing.specs.Sums.{window, bitsSum, packedSum};
+use bitio::reads;
+use reader::plain;
+use window::PacketBit;
+use window::U32;
+use window::U64;
+use window::Window;
+use window::WindowBit;
+
+#[no_mangle]
+pub extern "C" fn timing_public_read_bits(
+    bytes: &[u8],
+    start: u64,
+    position: u64,
+    length: u64,
+    widths: &[u32],
+) -> u64
+    ensures { λ r. ⌜ r ≡ bitsSum (now (widths .entry)) (now (bytes .entry)) (window start position length) ⌝ }
+{
+    let mut w = Window {
+        start: PacketBit(start),
+        position: WindowBit(position),
+        length,
+    };
+    let mut sum: u64 = 0;
+    let mut k: usize = 0;
+    while k < widths.len() {
+        let read = reads::read_bits(bytes, w, widths[k]);
+        let answer = read.answer;
+        match answer {
+            U64::Refused(_) => {
+                return sum;
+            }
+            U64::Value(v) => {
+                sum = std::num::wrapping_add_u64(sum, v);
+            }
+        }
+        w = read.next;
+        k += 1;
+    }
+    sum
+}
+
+#[no_mangle]
+pub extern "C" fn timing_reader_read_bits(
+    bytes: &[u8],
+    start: u64,
+    position: u64,
+    length: u64,
+    widths: &[u32],
+) -> u64
+    ensures { λ r. ⌜ r ≡ bitsSum (now (widths .entry)) (now (bytes .entry)) (window start position length) ⌝ }
+{
+    let mut w = Window {
+        start: PacketBit(start),
+        position: WindowBit(position),
+        length,
+    };
+    let mut sum: u64 = 0;
+    let mut k: usize = 0;
+    while k < widths.len() {
+        let read = plain::read_bits(bytes, w, widths[k]);
+        let answer = read.answer;
+        match answer {
+            U64::Refused(_) => {
+                return sum;
+            }
+            U64::Value(v) => {
+                sum = std::num::wrapping_add_u64(sum, v);
+            }
+        }
+        w = read.next;
+        k += 1;
+    }
+    sum
+}
+
+#[no_mangle]
+pub extern "C" fn timing_public_read_int_packed(
+    bytes: &[u8],
+    start: u64,
+    position: u64,
+    length: u64,
+    n: u64,
+) -> u64
+    ensures { λ r. ⌜ r ≡ packedSum n (now (bytes .entry)) (window start position length) ⌝ }
+{
+    let mut w = Window {
+        start: PacketBit(start),
+        position: WindowBit(position),
+        length,
+    };
+    let mut sum: u64 = 0;
+    let mut k: u64 = 0;
+    while k < n {
+        let read = reads::read_int_packed(bytes, w);
+        let answer = read.answer;
+        match answer {
+            U32::Refused(_) => {
+                return sum;
+            }
+            U32::Value(v) => {
+                sum = std::num::wrapping_add_u64(sum, v as u64);
+            }
+        }
+        w = read.next;
+        k += 1;
+    }
+    sum
+}
+
+#[no_mangle]
+pub extern "C" fn timing_reader_read_int_packed(
+    bytes: &[u8],
+    start: u64,
+    position: u64,
+    length: u64,
+    n: u64,
+) -> u64
+    ensures { λ r. ⌜ r ≡ packedSum n (now (bytes .entry)) (window start position length) ⌝ }
+{
+    let mut w = Window {
+        start: PacketBit(start),
+        position: WindowBit(position),
+        length,
+    };
+    let mut sum: u64 = 0;
+    let mut k: u64 = 0;
+    while k < n {
+        let read = plain::read_int_packed(bytes, w);
+        let answer = read.answer;
+        match answer {
+            U32::Refused(_) => {
+                return sum;
+            }
+            U32::Value(v) => {
+                sum = std::num::wrapping_add_u64(sum, v as u64);
+            }
+        }
+        w = read.next;
+        k += 1;
+    }
+    sum
+}
