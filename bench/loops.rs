@@ -14,14 +14,22 @@ macro_rules! loops {
     };
 }
 
-// The crate timing's functions. Nothing checks these lines against its source.
+// The functions of the crates timing and timing_reader. Nothing checks these lines against their source.
 loops! {
     timing_read_bit(reads: u64);
     timing_read_bits(widths: *const u32, k: usize);
     timing_read_int_packed(reads: u64);
     timing_read_serialized_int(maxima: *const u32, k: usize);
     timing_copy(counts: *const u64, k: usize, target: *mut u8, m: usize);
+    timing_public_read_bits(widths: *const u32, k: usize);
+    timing_reader_read_bits(widths: *const u32, k: usize);
+    timing_public_read_int_packed(reads: u64);
+    timing_reader_read_int_packed(reads: u64);
 }
+
+// A loop over bytes, a window and one width for each read; and over a number of reads.
+type Bits = unsafe extern "C" fn(*const u8, usize, u64, u64, u64, *const u32, usize) -> u64;
+type Packed = unsafe extern "C" fn(*const u8, usize, u64, u64, u64, u64) -> u64;
 
 /// The data with its window from `start` to the end, as the C functions take them.
 macro_rules! ours {
@@ -82,18 +90,18 @@ fn bit_case(timing: &Timing, name: &str, Input { data, operations, .. }: Input) 
     );
 }
 
-fn bits_case(timing: &Timing, name: &str, Input { data, narrow, .. }: Input) {
+fn bits_case(timing: &Timing, name: &str, Input { data, narrow, .. }: Input, ours: Bits) {
     compare(
         timing,
         name,
         &data,
         narrow.iter(),
         |reader, &width| reader.read_bits(width),
-        || ours!(timing_read_bits, &data, FIRST_BIT, narrow.as_ptr(), narrow.len()),
+        || ours!(ours, &data, FIRST_BIT, narrow.as_ptr(), narrow.len()),
     );
 }
 
-fn packed_case(timing: &Timing, name: &str, Input { data, operations, .. }: Input) {
+fn packed_case(timing: &Timing, name: &str, Input { data, operations, .. }: Input, ours: Packed) {
     let n = operations as u64;
     compare(
         timing,
@@ -101,7 +109,7 @@ fn packed_case(timing: &Timing, name: &str, Input { data, operations, .. }: Inpu
         &data,
         0..operations,
         |reader, _| reader.read_int_packed().map(u64::from),
-        || ours!(timing_read_int_packed, &data, FIRST_BIT, n),
+        || ours!(ours, &data, FIRST_BIT, n),
     );
 }
 
@@ -152,12 +160,19 @@ fn copy_case(timing: &Timing, size: usize, start: u64) {
 
 pub fn run(timing: &Timing) {
     bit_case(timing, "read_bit, loop", inputs::bits(16384));
-    bits_case(timing, "read_bits, loop, widths 1 to 64", inputs::with_arguments(4096, |random| 1 + random.below(64)));
-    bits_case(timing, "read_bits, loop, widths 1 to 16", inputs::with_arguments(4096, |random| 1 + random.below(16)));
-    packed_case(timing, "read_int_packed, loop, mostly 1 or 2 bytes", inputs::packed(4096, inputs::realistic_length));
-    packed_case(timing, "read_int_packed, loop, 1 to 5 bytes", inputs::packed(4096, |random| 1 + random.below(5)));
+    let widths = |most| inputs::with_arguments(4096, move |random| 1 + random.below(most));
+    bits_case(timing, "read_bits, loop, widths 1 to 64", widths(64), timing_read_bits);
+    bits_case(timing, "read_bits, loop, widths 1 to 16", widths(16), timing_read_bits);
+    bits_case(timing, "read_bits, loop, public, widths 1 to 64", widths(64), timing_public_read_bits);
+    bits_case(timing, "read_bits, loop, reader, widths 1 to 64", widths(64), timing_reader_read_bits);
+    let short = |reads| inputs::packed(reads, inputs::realistic_length);
+    packed_case(timing, "read_int_packed, loop, mostly 1 or 2 bytes", short(4096), timing_read_int_packed);
+    let every = inputs::packed(4096, |random| 1 + random.below(5));
+    packed_case(timing, "read_int_packed, loop, 1 to 5 bytes", every, timing_read_int_packed);
     // So long that a processor can't learn the branches by heart.
-    packed_case(timing, "read_int_packed, loop, mostly 1 or 2, 65536", inputs::packed(65536, inputs::realistic_length));
+    packed_case(timing, "read_int_packed, loop, mostly 1 or 2, 65536", short(65536), timing_read_int_packed);
+    packed_case(timing, "read_int_packed, loop, public, mostly 1 or 2", short(4096), timing_public_read_int_packed);
+    packed_case(timing, "read_int_packed, loop, reader, mostly 1 or 2", short(4096), timing_reader_read_int_packed);
     let mixed = inputs::with_arguments(4096, inputs::mixed_maximum);
     serialized_case(timing, "read_serialized_int, loop, mixed maxima", mixed);
     let long = inputs::with_arguments(65536, inputs::mixed_maximum);
