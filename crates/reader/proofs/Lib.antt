@@ -10,3 +10,4 @@ pub mod Handing
 pub mod Opens
 pub mod Lent
 pub mod Through
+pub mod Determined
