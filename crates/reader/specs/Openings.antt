@@ -1,7 +1,10 @@
 -- A reader that is opened, or cut out of another; or refused.
 use mathlib.Core.Path.{_≡_}
+use Prim.Native.Nat.{ℕ}
+use mathlib.Core.List.{List}
 use Rattle.window.specs.declared.Window.{Window}
 use Rattle.window.specs.declared.Done.{Done}
+use Rattle.window.specs.declared.U32.{U32}
 use Rattle.window.specs.Refusals.{paper}
 use denote.Ref.{now}
 use Rattle.window.specs.Parse.{Answer, got, refused, Result, value, refusal, Parse}
@@ -39,3 +42,16 @@ Cuts m a c w = (cutAnswer a c w ≡ m) × (c ≡ cutWindow m)
 abbrev pub Handed : Parse Window → BitReader → Opening → BitReader → Type 0
 Handed p before o after =
     Cuts (p (now (before .packet)) (windowOf before)) (o .answer) (windowOf (o .reader)) (windowOf after) × (o .reader .packet ≡ before .packet) × (after .packet ≡ before .packet)
+
+-- a read of what was opened, or why nothing was
+abbrev pub ofAnswer : {A : Type 0} → Answer A → Result A
+ofAnswer (got a w) = value a
+ofAnswer (refused e w) = refusal e
+
+abbrev pub readOpened : {A : Type 0} → Result Window → Parse A → List ℕ → Result A
+readOpened (value w) p d = ofAnswer (p d w)
+readOpened (refusal e) p d = refusal e
+
+abbrev pub ofNumber : U32 → Result ℕ
+ofNumber (U32.Value n) = value n
+ofNumber (U32.Refused e) = refusal (paper e)
