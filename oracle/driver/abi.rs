@@ -147,6 +147,14 @@ reads! {
     gritwheel_skip_remaining();
 }
 
+// Through the reader that keeps its slice (crates/reader).
+reads! {
+    Out;
+    gritwheel_reader_read_bits(count: u32);
+    gritwheel_reader_read_int_packed();
+    gritwheel_reader_read_serialized_int(max: u32);
+}
+
 reads! {
     WalkOut;
     gritwheel_list_records(

@@ -52,6 +52,23 @@ fn once(case: &Case, data: &[u8], target: &mut [u8], beside: &mut u64, out: &mut
     }
 }
 
+/// The same read through the reader that keeps its slice, where it is exported: whether it says the same.
+fn reader_agrees(case: &Case, data: &[u8], out: &Out) -> bool {
+    let (bytes, n) = (data.as_ptr(), data.len());
+    let [start, position, length] = case.window;
+    let narrow = case.argument as u32;
+    let mut said = [UNWRITTEN; 7];
+    unsafe {
+        match case.call {
+            ReadBits => gritwheel_reader_read_bits(bytes, n, start, position, length, narrow, &mut said),
+            ReadIntPacked => gritwheel_reader_read_int_packed(bytes, n, start, position, length, &mut said),
+            ReadSerializedInt => gritwheel_reader_read_serialized_int(bytes, n, start, position, length, narrow, &mut said),
+            _ => return true,
+        }
+    }
+    said == *out
+}
+
 /// The calls that answer with a number alone, in the other calls' form.
 fn told(case: &Case, number: u64, out: &mut Out) {
     let [start, position, length] = case.window;
@@ -88,6 +105,9 @@ impl compare::Case for Case {
         }
         answer.words = out;
         answer.damage = answer.damage.or(changed(data, &self.data));
+        if !reader_agrees(self, data, &out) {
+            answer.damage = Some("the reader that keeps its slice");
+        }
     }
 
     fn call(&self) -> usize {
