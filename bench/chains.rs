@@ -8,29 +8,18 @@ use crate::random::Random;
 use crate::timing::Timing;
 use vrf_net::bunch::{PartialBunchAccumulator, RawBunchHeader};
 
-#[rustfmt::skip]
-type Add = unsafe extern "C" fn(
-    usize, u64, usize, u64, u32, *const [u64; 20], *const u8, usize, u64, *mut u32, usize, *mut [u64; 24], usize, *mut u8, usize,
-    *mut u8, usize, *mut FragmentOut,
-);
-#[rustfmt::skip]
-type Take = unsafe extern "C" fn(
-    usize, u64, usize, u64, u32, *mut u32, usize, *mut [u64; 24], usize, *mut u8, usize, *mut u8, usize, *mut HandedOut,
-);
-
-/// How ours is called.
-struct How {
-    name: &'static str,
-    add: Add,
-    take: Take,
+/// Through which functions ours is called.
+#[derive(Clone, Copy)]
+enum How {
+    Public,
+    #[cfg(chains)]
+    Inner,
 }
 
-const PUBLIC: How = How { name: "by the public calls", add: gritwheel_add_fragment, take: gritwheel_take_completed };
-
 #[cfg(chains)]
-const HOW: [How; 2] = [How { name: "inner", add: timing_add_fragment, take: timing_take_completed }, PUBLIC];
+const HOW: [(&str, How); 2] = [("inner", How::Inner), ("by the public calls", How::Public)];
 #[cfg(not(chains))]
-const HOW: [How; 1] = [PUBLIC];
+const HOW: [(&str, How); 1] = [("by the public calls", How::Public)];
 
 const FRAGMENTS: usize = 8;
 const BYTES: usize = 1_000;
@@ -148,18 +137,24 @@ impl Rust {
 
 struct Ours {
     chains: Chains,
-    how: &'static How,
+    lent: Lent,
+}
+
+/// The memory that ours is lent, and its counts.
+struct Lent {
+    how: How,
     channels: Vec<u32>,
     places: Vec<[u64; 24]>,
     arena: Vec<u8>,
     output: Vec<u8>,
     active: usize,
     total: u64,
+    used: usize,
 }
 
-impl Ours {
+impl Lent {
     /// With what the Rust holds.
-    fn new(rust: &Rust, how: &'static How) -> Self {
+    fn new(rust: &Rust, how: How) -> Self {
         let flights = rust.chains.flights;
         let mut held: Vec<_> = rust.accumulator.fragments.iter().collect();
         held.sort_unstable_by_key(|(channel, _)| **channel);
@@ -173,39 +168,80 @@ impl Ours {
             places.push(place);
             arena.extend_from_slice(&state.partial.buffer);
         }
+        let used = arena.len();
         channels.resize(flights, 0);
         places.resize(flights, [0; 24]);
         arena.resize(flights * (MESSAGE + 1), 0);
         let (active, total) = (held.len(), rust.accumulator.total_buffered_bits() as u64);
-        Self { chains: rust.chains.clone(), how, channels, places, arena, output: vec![0; MESSAGE], active, total }
+        Self { how, channels, places, arena, output: vec![0; MESSAGE], active, total, used }
+    }
+
+    fn add(&mut self, ch_index: u32, header: &header::Words, payload: &[u8; BYTES], out: &mut FragmentOut) {
+        let (a, b) = (self.channels.len(), 8 * (MESSAGE * self.channels.len()) as u64);
+        let (c, d, bytes, bits) = (self.active, self.total, payload.as_ptr(), 8 * BYTES as u64);
+        let (channels, places, arena) = (self.channels.as_mut_ptr(), self.places.as_mut_ptr(), self.arena.as_mut_ptr());
+        let (k, output, l) = (self.arena.len(), self.output.as_mut_ptr(), self.output.len());
+        match self.how {
+            How::Public => unsafe {
+                gritwheel_add_fragment(
+                    a, b, c, d, ch_index, header, bytes, BYTES, bits, channels, a, places, a, arena, k, output, l, out,
+                )
+            },
+            #[cfg(chains)]
+            How::Inner => {
+                self.used = unsafe {
+                    timing_add_fragment(
+                        a, b, c, d, self.used, ch_index, header, bytes, BYTES, bits, channels, a, places, a, arena, k, output, l,
+                        out,
+                    )
+                }
+            }
+        }
+        (self.active, self.total) = (out[2] as usize, out[3]);
+    }
+
+    fn take(&mut self, ch_index: u32, out: &mut HandedOut) {
+        let (a, b) = (self.channels.len(), 8 * (MESSAGE * self.channels.len()) as u64);
+        let (c, d) = (self.active, self.total);
+        let (channels, places, arena) = (self.channels.as_mut_ptr(), self.places.as_mut_ptr(), self.arena.as_mut_ptr());
+        let (k, output, l) = (self.arena.len(), self.output.as_mut_ptr(), self.output.len());
+        match self.how {
+            How::Public => unsafe {
+                gritwheel_take_completed(a, b, c, d, ch_index, channels, a, places, a, arena, k, output, l, out)
+            },
+            #[cfg(chains)]
+            How::Inner => {
+                self.used = unsafe {
+                    timing_take_completed(a, b, c, d, self.used, ch_index, channels, a, places, a, arena, k, output, l, out)
+                }
+            }
+        }
+        (self.active, self.total) = (out[2] as usize, out[3]);
+    }
+
+}
+
+impl Ours {
+    fn new(rust: &Rust, how: How) -> Self {
+        Self { chains: rust.chains.clone(), lent: Lent::new(rust, how) }
     }
 
     fn run(&mut self, adds: usize, whole: bool) -> u64 {
         let (mut sum, mut counts) = (0, 0);
         let (mut out, mut handed) = ([0; 79], [0; 26]);
-        let (a, b) = (self.channels.len(), 8 * (MESSAGE * self.channels.len()) as u64);
-        let (channels, places, arena) = (self.channels.as_mut_ptr(), self.places.as_mut_ptr(), self.arena.as_mut_ptr());
-        let (k, output, l) = (self.arena.len(), self.output.as_mut_ptr(), self.output.len());
-        let (mut c, mut d) = (self.active, self.total);
-        let How { add, take, .. } = self.how;
+        let lent = &mut self.lent;
         for _ in 0..adds {
             let next = self.chains.next();
-            let (ch_index, header) = (next.ch_index, next.words());
-            let (bytes, n, bits) = (next.payload.as_ptr(), BYTES, 8 * BYTES as u64);
-            unsafe {
-                add(a, b, c, d, ch_index, &header, bytes, n, bits, channels, a, places, a, arena, k, output, l, &mut out)
-            };
-            (c, d) = (out[2] as usize, out[3]);
+            let ch_index = next.ch_index;
+            lent.add(ch_index, &next.words(), next.payload, &mut out);
             sum = out[4..24].iter().copied().fold(sum, mixed);
             sum = mixed(sum, out[24] + out[26]);
             counts += out[29] + out[30] + out[31];
             if next.last {
-                unsafe { take(a, b, c, d, ch_index, channels, a, places, a, arena, k, output, l, &mut handed) };
-                (c, d) = (handed[2] as usize, handed[3]);
-                sum = taken(sum, &handed[5..25], handed[25], &self.output[..handed[25].div_ceil(8) as usize], whole);
+                lent.take(ch_index, &mut handed);
+                sum = taken(sum, &handed[5..25], handed[25], &lent.output[..handed[25].div_ceil(8) as usize], whole);
             }
         }
-        (self.active, self.total) = (c, d);
         mixed(sum, counts)
     }
 }
@@ -221,8 +257,8 @@ fn adds(flights: usize) -> usize {
 
 pub fn run(timing: &Timing) {
     for flights in [1, 4, 16, 64, 256, 4_096] {
-        for how in &HOW {
-            let name = format!("chains, {flights} in flight, {}", how.name);
+        for (name, how) in HOW {
+            let name = format!("chains, {flights} in flight, {name}");
             if !timing.wants(&name) {
                 continue;
             }

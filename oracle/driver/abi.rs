@@ -35,24 +35,25 @@ pub type DrainedOut = [u64; 6];
 pub type WriteOut = [u64; 3];
 
 macro_rules! adding {
-    ($($name:ident;)*) => {
+    ($($name:ident($($used:ident: usize)?) $(-> $left:ty)?;)*) => {
         unsafe extern "C" {
             $(pub fn $name(
-                max_active: usize, max_buffered_bits: u64, active: usize, total: u64, ch_index: u32, header: *const [u64; 20],
-                payload: *const u8, n: usize, bits: u64, channels: *mut u32, i: usize, places: *mut [u64; 24], j: usize,
-                arena: *mut u8, k: usize, output: *mut u8, l: usize, out: *mut FragmentOut,
-            );)*
+                max_active: usize, max_buffered_bits: u64, active: usize, total: u64, $($used: usize,)? ch_index: u32,
+                header: *const [u64; 20], payload: *const u8, n: usize, bits: u64, channels: *mut u32, i: usize,
+                places: *mut [u64; 24], j: usize, arena: *mut u8, k: usize, output: *mut u8, l: usize, out: *mut FragmentOut,
+            ) $(-> $left)?;)*
         }
     };
 }
 
 macro_rules! handing {
-    ($($name:ident;)*) => {
+    ($($name:ident($($used:ident: usize)?) $(-> $left:ty)?;)*) => {
         unsafe extern "C" {
             $(pub fn $name(
-                max_active: usize, max_buffered_bits: u64, active: usize, total: u64, ch_index: u32, channels: *mut u32, i: usize,
-                places: *mut [u64; 24], j: usize, arena: *mut u8, k: usize, output: *mut u8, l: usize, out: *mut HandedOut,
-            );)*
+                max_active: usize, max_buffered_bits: u64, active: usize, total: u64, $($used: usize,)? ch_index: u32,
+                channels: *mut u32, i: usize, places: *mut [u64; 24], j: usize, arena: *mut u8, k: usize, output: *mut u8,
+                l: usize, out: *mut HandedOut,
+            ) $(-> $left)?;)*
         }
     };
 }
@@ -109,23 +110,24 @@ unsafe extern "C" {
 }
 
 adding! {
-    gritwheel_add_fragment;
+    gritwheel_add_fragment();
 }
 
 handing! {
-    gritwheel_take_completed;
-    gritwheel_retire_channel;
+    gritwheel_take_completed();
+    gritwheel_retire_channel();
 }
 
-// The inner forms, over memory that was tested, which only the timing program calls.
+// The inner forms, over memory that was tested, which only the timing program calls: they take and answer how many bytes of the
+// arena are used.
 #[cfg(chains)]
 adding! {
-    timing_add_fragment;
+    timing_add_fragment(used: usize) -> usize;
 }
 
 #[cfg(chains)]
 handing! {
-    timing_take_completed;
+    timing_take_completed(used: usize) -> usize;
 }
 
 reads! {
