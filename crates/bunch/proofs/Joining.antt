@@ -1,24 +1,28 @@
 -- A fragment past its payload's tests: what is shown and left, whatever the channel holds.
 use Prim.Native.Nat.{ℕ, _*_, _≤_, _<_}
 use mathlib.Core.Path.{_≡_, refl}
-use mathlib.Core.Bool.{Bool, true, false, cond}
+use mathlib.Core.Bool.{Bool, true, false, not, _||_, cond}
 use mathlib.Core.List.{List, [], _∷_, _++_, map}
 use native.Mathlib.Omega.{arith}
+use lib.Dec.{eqb}
 use lib.ListN.{length, take}
 use borrow.Author.Tests.{lt-ltb, le-ltb}
 use Rattle.window.specs.Refusals.{payloadTooLong, payloadShort, outputShort}
 use Rattle.tables.specs.declared.Slot.{Slot}
 use Rattle.tables.specs.Tables.{Found, none, found, get, put, slotOf}
 use Rattle.places.specs.Bytes.{pasted, part, bytesOf, payloadBytes}
+use Rattle.judging.specs.declared.Displacement.{Displacement}
 use Rattle.judging.specs.declared.Effect.{Effect}
 use Rattle.judging.specs.declared.Fate.{Fate}
+use Rattle.judging.specs.declared.PartialBunchResult.{PartialBunchResult}
+use Rattle.judging.specs.declared.PartialDiscardCause.{PartialDiscardCause}
 use Rattle.judging.specs.Held.{Held, Fragment, Displaced}
 use Rattle.judging.specs.Fates.{fate}
 use Rattle.judging.specs.Headers.{afterTest}
-use Rattle.judging.specs.Messages.{displaced}
+use Rattle.judging.specs.Messages.{replacedBy, displacedBy, displaced}
 use Rattle.judging.specs.Results.{result}
-use Rattle.judging.specs.Effects.{effectOn, shown, left}
-use Rattle.judging.specs.Standings.{valueOf}
+use Rattle.judging.specs.Effects.{effectOf, effectOn, shown, left}
+use Rattle.judging.specs.Standings.{valueOf, told, ofDisplacement}
 use Rattle.judging.proofs.Memory.{bytes-shown}
 use Rattle.judging.proofs.Judged.{met-left}
 use Rattle.held.specs.declared.Accumulator.{Accumulator}
@@ -35,6 +39,7 @@ use Rattle.held.proofs.Edits.{get-there, get-none}
 use Rattle.settling.proofs.Giving.{at-same, free-same, unchanged, changes}
 use Rattle.adding.specs.Adding.{stayedBy}
 use Rattle.bunch.specs.declared.BunchError.{BunchError}
+use Rattle.bunch.specs.declared.Judged.{Judged}
 use Rattle.bunch.specs.declared.inner.joining.Outcome.{Outcome}
 use Rattle.bunch.specs.Answers.{toldBy, ofJudged, outcome}
 
@@ -42,6 +47,28 @@ use Rattle.bunch.specs.Answers.{toldBy, ofJudged, outcome}
 pub told-all : (ds : List Displaced) → map toldBy (map valueOf ds) ≡ toldAll ds
 told-all [] = refl
 told-all (d ∷ ds) = rw (told-all ds) refl
+
+pub tells : {r x : PartialBunchResult} (d : Displacement) (ds : List Displaced) → r ≡ x → ofDisplacement d ≡ told ds → ofJudged (Judged.Result r d) ≡ judged x (toldAll ds)
+tells d ds e f = rw (e, f) (rw (told-all ds) refl)
+
+-- what shows no byte displaces nothing
+unreplaced : (c : PartialDiscardCause) (b : Bool) (m : Found Held) → b || false ≡ false → displacedBy c (replacedBy b m) ≡ []
+unreplaced c true m e = cc
+unreplaced c false m e = refl
+
+unfallen : (c : PartialDiscardCause) (b zero : Bool) (m : Found Held) (x : Displaced) → (b || not zero) || not zero ≡ false → displacedBy c (replacedBy b m) ++ cond zero [] (x ∷ []) ≡ []
+unfallen c true zero m x e = cc
+unfallen c false true m x e = refl
+unfallen c false false m x e = cc
+
+pub none-displaced : (x : Fate) (m : Found Held) (f : Fragment) → effectOn x f .«shows_held» || effectOn x f .«shows_payload» ≡ false → displaced x m f ≡ []
+unfolding displaced effectOf
+none-displaced Fate.TurnedAway m f e = refl
+none-displaced (Fate.Breaks k) m f e = cc
+none-displaced (Fate.Fails c) m f e = cc
+none-displaced Fate.Joins m f e = unreplaced _ (f .header .«b_partial_initial») m e
+none-displaced Fate.Finishes m f e = unreplaced _ (f .header .«b_partial_initial») m e
+none-displaced Fate.Falls m f e = unfallen _ (f .header .«b_partial_initial») (eqb (f .bits) 0) m _ e
 
 -- parts that are shown or not, as lengths
 pub shown-parts : (b d : Bool) (start size : ℕ) (arena : List ℕ) (bits : ℕ) (payload : List ℕ)

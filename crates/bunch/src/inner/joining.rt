@@ -1,17 +1,18 @@
 // A fragment is added: the Rust's `add_fragment`.
 ghost use mathlib.Core.Path.{_≡_};
 ghost use mathlib.Core.Bool.{cond};
-ghost use mathlib.Core.List.{List};
-ghost use Prim.Native.Nat.{ℕ, _≤_};
-ghost use lib.ListN.{length, take};
+ghost use mathlib.Core.List.{List, []};
+ghost use Prim.Native.Nat.{ℕ, _≤_, _<_};
+ghost use lib.Dec.{eqb};
+ghost use lib.ListN.{length, getD, take, drop};
 ghost use Rattle.tables.specs.declared.Slot.{Slot};
 ghost use Rattle.tables.specs.Tables.{slotOf};
 ghost use Rattle.places.specs.Bytes.{bytesOf};
 ghost use Rattle.judging.specs.Messages.{displaced};
-ghost use Rattle.judging.specs.Results.{result};
-ghost use Rattle.judging.specs.Standings.{heldOf, bitsOf};
+ghost use Rattle.judging.specs.Effects.{effectOf};
+ghost use Rattle.judging.specs.Standings.{heldOf, bitsOf, told, ofDisplacement};
 ghost use Rattle.held.specs.Memory.{memory};
-ghost use Rattle.held.specs.Steps.{adding, judged, toldAll, local};
+ghost use Rattle.held.specs.Steps.{adding, local};
 ghost use Rattle.held.specs.Calls.{heldBy, limitsOf};
 ghost use Rattle.settling.specs.Settling.{Using};
 ghost use Rattle.settling.specs.Giving.{Gives};
@@ -27,6 +28,8 @@ use adding::inner::weigh;
 use held::Accumulator;
 use held::inner::bytes_of;
 use held::inner::start_of;
+use judging::Displacement;
+use judging::Effect;
 use judging::Fate;
 use judging::Standing;
 use judging::headers::after_test;
@@ -57,14 +60,24 @@ fn refuse(e: BunchError, accumulator: Accumulator, used: usize) -> Outcome
     }
 }
 
-fn judge(met: Fate, held: Standing, words: HeaderWords, header: RawBunchHeader, bits: u64) -> Judged
-    requires { ⌜ (bitsOf held ≤ 536870912) × (bits ≤ 16383) ⌝ }
-    ensures { λ r. ⌜ ((bytes payload : List ℕ) → ofJudged r ≡ judged (result met (heldOf held words bytes) (record { header = header; bits = bits; payload = payload })) (toldAll (displaced met (heldOf held words bytes) (record { header = header; bits = bits; payload = payload })))) ⌝ }
+// What a fragment displaces at place i. Mostly nothing: the place's header is looked at only where bytes are shown.
+fn displaced_at(
+    e: Effect,
+    met: Fate,
+    held: Standing,
+    places: &[Place],
+    i: usize,
+    header: RawBunchHeader,
+    bits: u64,
+) -> Displacement
+    requires { ⌜ (e ≡ effectOf met (header .«b_partial_initial») (eqb bits 0)) × (i < length (now places)) × (bitsOf held ≤ 536870912) × (bits ≤ 16383) ⌝ }
+    ensures { λ r. ⌜ ((bytes payload : List ℕ) → ofDisplacement r ≡ told (displaced met (heldOf held (drop 4 (getD (now (places .entry)) i [])) bytes) (record { header = header; bits = bits; payload = payload }))) ⌝ }
 {
-    Judged::Result {
-        result: result(met, held, header, bits),
-        displaced: displaced(met, held, words, header, bits),
+    if e.shows_held | e.shows_payload {
+        let p = places[i];
+        return displaced(met, held, words_of(p), header, bits);
     }
+    Displacement::Nothing
 }
 
 fn kept(initial: bool, held: u64) -> u64
@@ -107,10 +120,16 @@ fn add_held(
         );
     }
     let start = start_of(places, i);
+    let met = w.fate;
+    let e = w.effect;
+    let gone = displaced_at(e, met, standing, places, i, header, bits);
+    let answer = Judged::Result {
+        result: result(met, standing, header, bits),
+        displaced: gone,
+    };
     show(arena, start, w.held, payload, w.payload, output);
     let h = after_test(standing, header);
     let sequence = sequence_of(h);
-    let e = w.effect;
     let left = settle_held(
         a,
         used,
@@ -126,8 +145,6 @@ fn add_held(
         places,
         arena,
     );
-    let met = w.fate;
-    let answer = judge(met, standing, words_of(p), header, bits);
     Outcome { answer, left }
 }
 
@@ -162,6 +179,12 @@ fn add_free(
             used,
         );
     }
+    let met = w.fate;
+    let words: HeaderWords = [0; 20];
+    let answer = Judged::Result {
+        result: result(met, standing, header, bits),
+        displaced: displaced(met, standing, words, header, bits),
+    };
     put_payload(payload, w.payload, output, 0);
     let start = start_of(places, i);
     let sequence = sequence_of(header);
@@ -181,9 +204,6 @@ fn add_free(
         places,
         arena,
     );
-    let met = w.fate;
-    let words: HeaderWords = [0; 20];
-    let answer = judge(met, standing, words, header, bits);
     Outcome { answer, left }
 }
 

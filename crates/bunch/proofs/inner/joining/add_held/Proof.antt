@@ -3,10 +3,13 @@ use Prim.Native.Nat.{_≤_}
 use mathlib.Core.Path.{refl}
 use mathlib.Core.List.{[]}
 use native.Mathlib.Omega.{arith}
-use lib.ListN.{getD}
+use lib.ListN.{getD, drop}
 use Rattle.judging.specs.Held.{Fragment}
+use Rattle.judging.specs.Messages.{displaced}
+use Rattle.judging.specs.Standings.{heldOf}
 use Rattle.held.specs.Memory.{memory, bitsOf}
 use Rattle.held.proofs.Holding.{start-asks}
+use Rattle.bunch.proofs.Joining.{tells}
 use Rattle.bunch.proofs.Handing.{spot}
 use Rattle.bunch.proofs.There.{joins-few, word-fits, few-shown, gives-short, holds, gives-judged}
 use borrow.Author.Needs.{needs}
@@ -52,41 +55,47 @@ add-needed c =
     let g = spot (a .a) m (a .used) (q .0) (a .ch-index) (a .i) (q .1) in
     omega (arith, few .0, few .1, q .2, g, c .before .bytes-of .ensures)
 
+displaced-at-requires : tie.Need-displaced-at-requires
+displaced-at-requires c κs =
+    let q = c .before .before .before .before .before .before .before .before .before .before .before .before .before .before .before .before .before .pre in
+    let g = spot _ _ _ (q .0) _ _ (q .1) in
+    (c .before .before .before .before .before .before .before .weigh .ensures .1, omega (arith, g), omega (arith, g, c .before .before .before .before .before .before .before .before .before .before .before .standing-of .ensures .1), q .2)
+
 show-requires : tie.Need-show-requires
 show-requires c κs =
-    let a = c .before .before .before .before .before .before .before .before .before .before .before .before .before .before .before .before .before .args in
-    let q = c .before .before .before .before .before .before .before .before .before .before .before .before .before .before .before .before .before .pre in
+    let a = c .before .before .before .before .before .before .before .before .before .before .before .before .before .before .before .before .before .before .before .before .before .args in
+    let q = c .before .before .before .before .before .before .before .before .before .before .before .before .before .before .before .before .before .before .before .before .before .pre in
     let m = memory (a .channels .now) (a .places .now) (a .arena .now) in
     let f : Fragment = record { header = a .header; bits = a .bits; payload = a .payload .now } in
-    let so = c .before .before .before .before .before .before .before .before .before .before .before .standing-of in
-    let ke = c .before .before .before .before .before .before .before .before .before .before .kept in
-    let we = c .before .before .before .before .before .before .before .weigh in
+    let so = c .before .before .before .before .before .before .before .before .before .before .before .before .before .before .before .standing-of in
+    let ke = c .before .before .before .before .before .before .before .before .before .before .before .before .before .before .kept in
+    let we = c .before .before .before .before .before .before .before .before .before .before .before .weigh in
     let few = few-shown (a .a) m (a .used) (q .0) (a .ch-index) (a .i) (q .1) f (q .2) (q .3) (so .result) (so .ensures .0) (ke .result) (ke .ensures) (we .result) (we .ensures .0) (we .ensures .1) (we .ensures .2) (we .ensures .3) in
     let g = spot (a .a) m (a .used) (q .0) (a .ch-index) (a .i) (q .1) in
-    (omega (arith, few .1, g, c .before .before .start-of .ensures), omega (arith, few .0, q .3), omega (arith, c .before .before .before .before .if1 .left, c .before .before .before .before .before .before .bytes-of .ensures))
+    (omega (arith, few .1, g, c .before .before .before .before .before .before .start-of .ensures), omega (arith, few .0, q .3), omega (arith, c .before .before .before .before .before .before .before .before .if1 .left, c .before .before .before .before .before .before .before .before .before .before .bytes-of .ensures))
 
 settle-held-requires : tie.Need-settle-held-requires
 settle-held-requires c κs =
-    let a = c .before .before .before .before .before .before .before .before .before .before .before .before .before .before .before .before .before .before .before .before .before .before .before .before .before .before .args in
-    let q = c .before .before .before .before .before .before .before .before .before .before .before .before .before .before .before .before .before .before .before .before .before .before .before .before .before .before .pre in
+    let a = c .before .before .before .before .before .before .before .before .before .before .before .before .before .before .before .before .before .before .before .before .before .before .before .before .before .before .before .before .before .args in
+    let q = c .before .before .before .before .before .before .before .before .before .before .before .before .before .before .before .before .before .before .before .before .before .before .before .before .before .before .before .before .before .pre in
     let m = memory (a .channels .now) (a .places .now) (a .arena .now) in
     let f : Fragment = record { header = a .header; bits = a .bits; payload = a .payload .now } in
-    let so = c .before .before .before .before .before .before .before .before .before .before .before .before .before .before .before .before .before .before .before .before .standing-of in
-    let ke = c .before .before .before .before .before .before .before .before .before .before .before .before .before .before .before .before .before .before .before .kept in
-    let we = c .before .before .before .before .before .before .before .before .before .before .before .before .before .before .before .before .weigh in
-    holds (a .a) m (a .used) (q .0) (a .ch-index) (a .i) (q .1) f (q .2) (q .3) (so .result) (so .ensures .0) (ke .result) (ke .ensures) (we .result) (we .ensures .0) (we .ensures .1) (we .ensures .2) (we .ensures .3) (c .before .before .before .before .before .after-test .result) (c .before .before .before .before .before .after-test .ensures) (c .before .before .before .before .sequence-of .result) (c .before .before .before .before .sequence-of .ensures) (c .before .before .before .before .before .before .before .before .before .before .before .start-of .result) (c .before .before .before .before .before .before .before .before .before .before .before .start-of .ensures)
+    let so = c .before .before .before .before .before .before .before .before .before .before .before .before .before .before .before .before .before .before .before .before .before .before .before .standing-of in
+    let ke = c .before .before .before .before .before .before .before .before .before .before .before .before .before .before .before .before .before .before .before .before .before .before .kept in
+    let we = c .before .before .before .before .before .before .before .before .before .before .before .before .before .before .before .before .before .before .before .weigh in
+    holds (a .a) m (a .used) (q .0) (a .ch-index) (a .i) (q .1) f (q .2) (q .3) (so .result) (so .ensures .0) (ke .result) (ke .ensures) (we .result) (we .ensures .0) (we .ensures .1) (we .ensures .2) (we .ensures .3) (c .before .before .before .before .after-test .result) (c .before .before .before .before .after-test .ensures) (c .before .before .before .sequence-of .result) (c .before .before .before .sequence-of .ensures) (c .before .before .before .before .before .before .before .before .before .before .before .before .before .before .start-of .result) (c .before .before .before .before .before .before .before .before .before .before .before .before .before .before .start-of .ensures)
 
 returns-2 : tie.Need-returns-2
 returns-2 c =
-    let a = c .before .before .before .before .before .before .before .before .before .before .before .before .before .before .before .before .before .before .before .before .before .before .before .before .before .before .before .before .before .before .before .before .before .before .args in
-    let q = c .before .before .before .before .before .before .before .before .before .before .before .before .before .before .before .before .before .before .before .before .before .before .before .before .before .before .before .before .before .before .before .before .before .before .pre in
+    let a = c .before .before .before .before .before .before .before .before .before .before .before .before .before .before .before .before .before .before .before .before .before .before .before .before .before .before .before .before .before .before .before .before .before .before .before .args in
+    let q = c .before .before .before .before .before .before .before .before .before .before .before .before .before .before .before .before .before .before .before .before .before .before .before .before .before .before .before .before .before .before .before .before .before .before .before .pre in
     let m = memory (a .channels .now) (a .places .now) (a .arena .now) in
     let f : Fragment = record { header = a .header; bits = a .bits; payload = a .payload .now } in
-    let so = c .before .before .before .before .before .before .before .before .before .before .before .before .before .before .before .before .before .before .before .before .before .before .before .before .before .before .before .before .standing-of in
-    let ke = c .before .before .before .before .before .before .before .before .before .before .before .before .before .before .before .before .before .before .before .before .before .before .before .before .before .before .before .kept in
-    let we = c .before .before .before .before .before .before .before .before .before .before .before .before .before .before .before .before .before .before .before .before .before .before .before .before .weigh in
-    gives-judged (a .a) m (a .used) (q .0) (a .ch-index) (a .i) (q .1) f (q .2) (q .3) (so .result) (so .ensures .0) (ke .result) (ke .ensures) (we .result) (we .ensures .0) (we .ensures .1) (we .ensures .2) (we .ensures .3) (c .before .before .before .before .before .before .before .before .before .before .before .before .before .after-test .result) (c .before .before .before .before .before .before .before .before .before .before .before .before .before .after-test .ensures) (c .before .before .before .before .before .before .before .before .before .before .before .before .sequence-of .result) (c .before .before .before .before .before .before .before .before .before .before .before .before .sequence-of .ensures) (c .before .before .before .before .before .before .before .before .before .before .before .before .before .before .before .before .before .before .before .start-of .result) (c .before .before .before .before .before .before .before .before .before .before .before .before .before .before .before .before .before .before .before .start-of .ensures) (a .output .now)
-    (omega (arith, c .before .before .before .before .before .before .before .before .before .before .before .before .before .before .before .before .before .before .before .before .before .if1 .left, c .before .before .before .before .before .before .before .before .before .before .before .before .before .before .before .before .before .before .before .before .before .before .before .bytes-of .ensures)) (c .before .before .before .before .before .before .before .before .before .before .before .before .before .before .before .before .show .ensures) (rw (c .before .words-of .ensures) at (c .judge .ensures)) (c .before .before .before .before .before .before .before .settle-held .ensures)
+    let so = c .before .before .before .before .before .before .before .before .before .before .before .before .before .before .before .before .before .before .before .before .before .before .before .before .before .before .before .before .before .standing-of in
+    let ke = c .before .before .before .before .before .before .before .before .before .before .before .before .before .before .before .before .before .before .before .before .before .before .before .before .before .before .before .before .kept in
+    let we = c .before .before .before .before .before .before .before .before .before .before .before .before .before .before .before .before .before .before .before .before .before .before .before .before .before .weigh in
+    gives-judged (a .a) m (a .used) (q .0) (a .ch-index) (a .i) (q .1) f (q .2) (q .3) (so .result) (so .ensures .0) (ke .result) (ke .ensures) (we .result) (we .ensures .0) (we .ensures .1) (we .ensures .2) (we .ensures .3) (c .before .before .before .before .before .before .before .before .before .before .after-test .result) (c .before .before .before .before .before .before .before .before .before .before .after-test .ensures) (c .before .before .before .before .before .before .before .before .before .sequence-of .result) (c .before .before .before .before .before .before .before .before .before .sequence-of .ensures) (c .before .before .before .before .before .before .before .before .before .before .before .before .before .before .before .before .before .before .before .before .start-of .result) (c .before .before .before .before .before .before .before .before .before .before .before .before .before .before .before .before .before .before .before .before .start-of .ensures) (a .output .now)
+    (omega (arith, c .before .before .before .before .before .before .before .before .before .before .before .before .before .before .before .before .before .before .before .before .before .before .if1 .left, c .before .before .before .before .before .before .before .before .before .before .before .before .before .before .before .before .before .before .before .before .before .before .before .before .bytes-of .ensures)) (c .before .before .before .before .before .before .before .before .before .before .before .before .before .show .ensures) (λ bytes payload. tells (c .before .before .before .before .before .before .before .before .before .before .before .before .before .before .before .before .before .displaced-at .result) (displaced (we .result .fate) (heldOf (so .result) (drop 4 (getD (a .places .now) (a .i) [])) bytes) (record { header = a .header; bits = a .bits; payload = payload })) (c .before .before .before .before .before .before .before .before .before .before .before .before .before .before .before .before .result .ensures (drop 4 (getD (a .places .now) (a .i) [])) bytes payload) (c .before .before .before .before .before .before .before .before .before .before .before .before .before .before .before .before .before .displaced-at .ensures bytes payload)) (c .before .before .before .before .before .settle-held .ensures)
 
 pub add-held-spec : {M : Type 1} → statement M
 add-held-spec =
@@ -106,12 +115,12 @@ add-held-spec =
     (λ c κs. search needs)
     returns
     (λ c κs. let q = c .before .before .before .before .before .before .before .before .before .before .before .before .before .before .pre in let g = spot _ _ _ (q .0) _ _ (q .1) in start-asks _ _ (q .0 .stands) _ (omega (arith, g .live)))
+    displaced-at-requires
+    (λ c κs. let q = c .before .before .before .before .before .before .before .before .before .before .before .before .before .before .before .before .before .before .pre in let g = spot _ _ _ (q .0) _ _ (q .1) in (omega (arith, g, c .before .before .before .before .before .before .before .before .before .before .before .before .standing-of .ensures .1), q .2))
     show-requires
     (λ c κs. search needs)
     (λ c κs. search needs)
     settle-held-requires
-    (λ c κs. search needs)
-    (λ c κs. let q = c .before .before .before .before .before .before .before .before .before .before .before .before .before .before .before .before .before .before .before .before .before .before .before .before .before .before .before .before .before .before .before .before .before .pre in let g = spot _ _ _ (q .0) _ _ (q .1) in (omega (arith, g, c .before .before .before .before .before .before .before .before .before .before .before .before .before .before .before .before .before .before .before .before .before .before .before .before .before .before .before .standing-of .ensures .1), q .2))
     (λ c. search needs)
     (λ c. search needs)
     (λ c. search needs)
