@@ -1,7 +1,7 @@
 // Compares our library with the Rust, call by call; without our library it records the Rust's answers.
 //
-//   driver [--long] [--seed N] [--share N]     built with --cfg ours, --cfg bunch, or both
-//   driver --record N                          built without
+//   driver [--long] [--seed N] [--share N] [--part NAME]     built with --cfg ours, --cfg bunch, or both
+//   driver --record N                                        built without
 //
 // `bunch` is the accumulator and its library, `ours` all the others.
 
@@ -27,23 +27,28 @@ mod text;
 mod window;
 mod writer;
 
+const PARTS: [&str; 5] = ["bitio", "field", "packet", "writer", "bunch"];
+
 struct Given {
     long: bool,
     seed: u64,
     /// One input in so many is compared.
     share: u64,
+    /// All parts where none is named.
+    part: Option<String>,
     #[cfg_attr(any(ours, bunch), allow(dead_code))]
     record: usize,
 }
 
 fn given() -> Option<Given> {
-    let mut given = Given { long: false, seed: 1, share: 1, record: 0 };
+    let mut given = Given { long: false, seed: 1, share: 1, part: None, record: 0 };
     let mut words = std::env::args().skip(1);
     while let Some(word) = words.next() {
         match word.as_str() {
             "--long" => given.long = true,
             "--seed" => given.seed = words.next()?.parse().ok()?,
             "--share" => given.share = words.next()?.parse().ok().filter(|&share| share > 0)?,
+            "--part" => given.part = Some(words.next().filter(|part| PARTS.contains(&part.as_str()))?),
             "--record" => given.record = words.next()?.parse().ok()?,
             _ => return None,
         }
@@ -54,15 +59,27 @@ fn given() -> Option<Given> {
 #[cfg(any(ours, bunch))]
 fn run(given: &Given) {
     compare::watch_for_crashes();
+    let &Given { long, seed, share, .. } = given;
+    let wants = |part: &str| given.part.as_deref().is_none_or(|one| one == part);
     #[cfg(ours)]
     {
-        bitio::inputs::Inputs::new(given.seed, given.share, given.long).run();
-        field::inputs::Inputs::new(given.seed, given.share, given.long).run();
-        packet::inputs::Inputs::new(given.seed, given.share, given.long).run();
-        writer::inputs::Inputs::new(given.seed, given.share, given.long).run();
+        if wants("bitio") {
+            bitio::inputs::Inputs::new(seed, share, long).run();
+        }
+        if wants("field") {
+            field::inputs::Inputs::new(seed, share, long).run();
+        }
+        if wants("packet") {
+            packet::inputs::Inputs::new(seed, share, long).run();
+        }
+        if wants("writer") {
+            writer::inputs::Inputs::new(seed, share, long).run();
+        }
     }
     #[cfg(bunch)]
-    bunch::inputs::Inputs::new(given.seed, given.share, given.long).run();
+    if wants("bunch") {
+        bunch::inputs::Inputs::new(seed, share, long).run();
+    }
 }
 
 #[cfg(not(any(ours, bunch)))]
@@ -76,7 +93,7 @@ fn run(given: &Given) {
 
 fn main() {
     let Some(given) = given() else {
-        println!("driver [--long] [--seed N] [--share N] | driver --record N");
+        println!("driver [--long] [--seed N] [--share N] [--part NAME] | driver --record N");
         std::process::exit(2);
     };
     run(&given);
