@@ -2,3 +2,4 @@ pub mod Pastes
 pub mod Payloads
 pub mod Packed
 pub mod Arena
+pub mod Blocks

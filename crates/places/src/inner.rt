@@ -41,7 +41,7 @@ fn move_down(arena: &mut [u8], from: usize, to: usize, n: usize)
     }
 }
 
-fn move_up(arena: &mut [u8], from: usize, to: usize, n: usize)
+fn move_up_by_bytes(arena: &mut [u8], from: usize, to: usize, n: usize)
     requires { ⌜ (from ≤ to) × (to + n ≤ length (now arena)) ⌝ }
     ensures { λ r. ⌜ now (arena .exit) ≡ pasted to (part from n (now (arena .entry))) (now (arena .entry)) ⌝ }
 {
@@ -50,6 +50,28 @@ fn move_up(arena: &mut [u8], from: usize, to: usize, n: usize)
         i -= 1;
         arena[to + i] = arena[from + i];
     }
+}
+
+// By way of a block of its own: what is read whole before it is written needs no test of how the two parts overlap.
+fn move_block(arena: &mut [u8], from: usize, to: usize)
+    requires { ⌜ (from + 256 ≤ length (now arena)) × (to + 256 ≤ length (now arena)) ⌝ }
+    ensures { λ r. ⌜ now (arena .exit) ≡ pasted to (part from 256 (now (arena .entry))) (now (arena .entry)) ⌝ }
+{
+    let mut block = [0u8; 256];
+    copy_bytes(arena, from, 256, &mut block, 0);
+    copy_bytes(&block, 0, 256, arena, to);
+}
+
+fn move_up(arena: &mut [u8], from: usize, to: usize, n: usize)
+    requires { ⌜ (from ≤ to) × (to + n ≤ length (now arena)) ⌝ }
+    ensures { λ r. ⌜ now (arena .exit) ≡ pasted to (part from n (now (arena .entry))) (now (arena .entry)) ⌝ }
+{
+    let mut i = n;
+    while 256 <= i {
+        i -= 256;
+        move_block(arena, from + i, to + i);
+    }
+    move_up_by_bytes(arena, from, to, i);
 }
 
 // From the end that is written over last; what stays where it is costs nothing.

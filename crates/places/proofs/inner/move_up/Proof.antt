@@ -1,10 +1,12 @@
--- The bytes from i on have moved: a turn is Pastes' `moves-up`.
-use mathlib.Core.Path.{_≡_, refl}
-use Prim.Native.Nat.{_-_, _≤_}
+-- The bytes from i on have moved: a turn is Blocks' `moves-block`, and so is what is left, as a block of i bytes.
+use mathlib.Core.Path.{_≡_, refl, ap, _∙_}
+use Prim.Native.Nat.{_+_, _-_, _≤_}
 use native.Mathlib.Omega.{arith}
-use lib.ListN.{length, length-set}
+use lib.ListN.{length}
 use borrow.Author.Needs.{needs}
-use Rattle.places.proofs.Pastes.{MovedFrom, moves-none, moves-up, moves-all}
+use Rattle.places.specs.Bytes.{part}
+use Rattle.places.proofs.Pastes.{length-part, length-pasted, MovedFrom, moves-none}
+use Rattle.places.proofs.Blocks.{moves-block, moves-rest}
 use Rattle.places.proofs.inner.move_up.Statement.{statement}
 use Rattle.places.proofs.inner.move_up.Tie as tie
 
@@ -15,19 +17,28 @@ abbrev μ-loop : tie.MeasureT-loop
 μ-loop arena₀ from to n i₀ arena i = i
 
 loop-holds : tie.Need-loop-holds Inv-loop μ-loop
-loop-holds c = (omega arith, refl, moves-none (c .args .from) (c .args .to) (c .args .n) (c .args .arena .now))
+loop-holds c = let a = c .before .args in (omega arith, refl, moves-none (a .from) (a .to) (a .n) (a .arena .now))
 
 loop-again : tie.Need-loop-again Inv-loop μ-loop
 loop-again c =
-    let l = c .before .before .loop in
-    let a = c .before .before .before .args in
-    (omega arith, simp length-set (l .inv .1), moves-up 0 (a .from) (a .to) (a .n) (l .i) (l .i - 1) (a .arena .now) (omega arith) (omega arith) (omega arith) (omega arith) (l .inv .2))
+    let l = c .before .before .before .before .before .loop in
+    let a = c .before .before .before .before .before .before .before .args in
+    let j = l .i - 256 in
+    let b = length-part (a .from + j) 256 (l .arena) (omega (arith, l .inv .1)) in
+    (omega arith, ap length (c .before .before .move-block .ensures) ∙ length-pasted (a .to + j) (part (a .from + j) 256 (l .arena)) (l .arena) (omega (arith, b, l .inv .1)) ∙ l .inv .1, rw (c .before .before .move-block .ensures) (moves-block (a .from) (a .to) (a .n) (l .i) j 256 (a .arena .now) (omega arith) (omega arith) (omega arith) (omega arith) (l .inv .2)))
+
+same-length : tie.Need-same-length Inv-loop μ-loop
+same-length c =
+    let l = c .before .before .before .before .before .loop in
+    let a = c .before .before .before .before .before .before .before .args in
+    let b = length-part (a .from) (l .i) (l .arena) (omega (arith, l .inv .1)) in
+    ap length (c .before .before .move-up-by-bytes .ensures) ∙ length-pasted (a .to) (part (a .from) (l .i) (l .arena)) (l .arena) (omega (arith, b, l .inv .1)) ∙ l .inv .1
 
 returns : tie.Need-returns Inv-loop μ-loop
 returns c =
-    let l = c .before .loop in
-    let a = c .before .before .args in
-    moves-all (a .from) (a .to) (a .n) (l .i) (a .arena .now) (omega arith) (l .inv .2)
+    let l = c .before .before .before .before .before .loop in
+    let a = c .before .before .before .before .before .before .before .args in
+    moves-rest (a .from) (a .to) (a .n) (l .i) (a .arena .now) (omega arith) (omega arith) (omega arith) (l .inv .2) (c .before .before .move-up-by-bytes .ensures)
 
 pub move-up-spec : {M : Type 1} → statement M
 move-up-spec =
@@ -38,10 +49,9 @@ move-up-spec =
     loop-holds
     (λ c. search needs)
     (λ c. search needs)
-    (λ c. search needs)
-    (λ c. search needs)
-    (λ c. search needs)
+    (λ c κs. search needs)
     (λ c. search needs)
     loop-again
-    (λ c. c .before .loop .inv .1)
+    (λ c κs. search needs)
+    same-length
     returns)
