@@ -29,6 +29,7 @@ pub fn quad(line: &[u8], at: usize) -> usize
 
 pub fn word(line: &[u8], at: usize) -> u64
     requires { ⌜ at + 6 < 2 ^ 32 ⌝ }
+    ensures { λ r. ⌜ r < 2 ^ 64 ⌝ }
 {
     4294967296 * (quad(line, at) as u64) + (quad(line, at + 4) as u64)
 }

@@ -1,5 +1,6 @@
 // The accumulator's recorded answers, replayed against our calls; oracle/driver/bunch/records.rs says what a record has.
 ghost use mathlib.Core.Path.{_≡_};
+ghost use mathlib.Core.Bool.{false};
 ghost use Prim.Native.Nat.{_+_, _*_, _^_, _≤_, _<_};
 ghost use lib.ListN.{length};
 use draining::Listed;
@@ -84,7 +85,9 @@ fn replayed_in(
 
 // Whether our call answers as the record says, and leaves what is lent so. A record of another size or of no such call differs.
 // What is lent has 255 bytes at most in a record, so five places and 255 bytes are room for it.
-pub fn agrees(line: &[u8]) -> bool {
+pub fn agrees(line: &[u8]) -> bool
+    ensures { λ r. ⌜ (length (now (line .entry)) < 92 → r ≡ false) ⌝ }
+{
     let sizes = recorded::sizes_of(line);
     let n = sizes.n;
     let m = sizes.m;

@@ -1,5 +1,6 @@
 // Recorded answers of the bit reader, the walks, the packet reader and the writer, replayed against our calls.
 ghost use mathlib.Core.Path.{_≡_};
+ghost use mathlib.Core.Bool.{false};
 ghost use Prim.Native.Nat.{_+_, _*_, _^_, _<_};
 ghost use lib.ListN.{length};
 use calls::Given;
@@ -57,7 +58,9 @@ fn agrees_in(line: &[u8], n: usize, m: usize, room: &mut [u8]) -> bool
 }
 
 // Whether our call answers as the record says, and leaves what is lent so. A record of another size or of no such call differs.
-pub fn agrees(line: &[u8]) -> bool {
+pub fn agrees(line: &[u8]) -> bool
+    ensures { λ r. ⌜ (length (now (line .entry)) < 92 → r ≡ false) ⌝ }
+{
     let sizes = recorded::sizes_of(line);
     let n = sizes.n;
     let m = sizes.m;
