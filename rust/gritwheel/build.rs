@@ -5,7 +5,7 @@ use std::path::{Path, PathBuf};
 /// What `rt staticlib` makes, an archive for each part.
 const PARTS: [&str; 4] = ["exports", "exports_packet", "exports_writer", "exports_bunch"];
 
-/// What an installation has instead: the four in one.
+/// What an installation has instead: all in one.
 const WHOLE: &str = "gritwheel";
 
 fn has(dir: &Path, name: &str) -> bool {
