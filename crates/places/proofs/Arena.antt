@@ -50,9 +50,6 @@ module _ {A : Type 0} where
       subst (λ (t : List A). part from n t ≡ drop from s) (sym h)
       (rw (drop-append-le from s (drop (length s) m) (omega arith)) (take-at (drop from s) (drop (length s) m) n (rw length-drop (omega arith))))
 
-  pub laid-still : (s m : List A) {a : List A} → a ≡ laid s m → a ≡ laid s a
-  laid-still s m e = rw e (sym (laid-twice s m))
-
 -- Memory that holds the messages first. The n bytes from `from` on, up to their end, have moved to `to`.
 module _ (bs : List (List ℕ)) (m : List ℕ) (holds : m ≡ laid (joined bs) m)
     (i from to n : ℕ) (used : from + n ≡ length (joined bs)) {moved : List ℕ} (moves : moved ≡ pasted to (part from n m) m) where

@@ -14,10 +14,6 @@ module _ {A : Type 0} where
   pub length-part : (from n : ℕ) (s : List A) → from + n ≤ length s → length (part from n s) ≡ n
   length-part from n s h = length-take-le n (drop from s) (rw length-drop (omega arith))
 
-  pub pasted-is : (at : ℕ) (b m : List A) → pasted at b m ≡ take at m ++ (b ++ drop (at + length b) m)
-  unfolding pasted laid
-  pasted-is at b m = rw drop-drop
-
   pub pasted-none : (at : ℕ) (m : List A) → m ≡ pasted at [] m
   unfolding pasted laid
   pasted-none at m = sym (take-append-drop at m)

@@ -30,7 +30,7 @@ pub fn remove_place(places: &mut [Place], live: usize, at: usize)
     }
 }
 
-fn move_down(arena: &mut [u8], from: usize, to: usize, n: usize)
+fn move_down_by_bytes(arena: &mut [u8], from: usize, to: usize, n: usize)
     requires { ⌜ (to ≤ from) × (from + n ≤ length (now arena)) ⌝ }
     ensures { λ r. ⌜ now (arena .exit) ≡ pasted to (part from n (now (arena .entry))) (now (arena .entry)) ⌝ }
 {
@@ -58,8 +58,20 @@ fn move_block(arena: &mut [u8], from: usize, to: usize)
     ensures { λ r. ⌜ now (arena .exit) ≡ pasted to (part from 256 (now (arena .entry))) (now (arena .entry)) ⌝ }
 {
     let mut block = [0u8; 256];
-    copy_bytes(arena, from, 256, &mut block, 0);
-    copy_bytes(&block, 0, 256, arena, to);
+    copy_by_bytes(arena, from, 256, &mut block, 0);
+    copy_by_bytes(&block, 0, 256, arena, to);
+}
+
+fn move_down(arena: &mut [u8], from: usize, to: usize, n: usize)
+    requires { ⌜ (to ≤ from) × (from + n ≤ length (now arena)) ⌝ }
+    ensures { λ r. ⌜ now (arena .exit) ≡ pasted to (part from n (now (arena .entry))) (now (arena .entry)) ⌝ }
+{
+    let mut i: usize = 0;
+    while 256 <= n - i {
+        move_block(arena, from + i, to + i);
+        i += 256;
+    }
+    move_down_by_bytes(arena, from + i, to + i, n - i);
 }
 
 fn move_up(arena: &mut [u8], from: usize, to: usize, n: usize)
@@ -86,7 +98,7 @@ pub fn move_bytes(arena: &mut [u8], from: usize, to: usize, n: usize)
     }
 }
 
-pub fn copy_bytes(src: &[u8], from: usize, n: usize, out: &mut [u8], at: usize)
+fn copy_by_bytes(src: &[u8], from: usize, n: usize, out: &mut [u8], at: usize)
     requires { ⌜ (from + n ≤ length (now src)) × (at + n ≤ length (now out)) ⌝ }
     ensures { λ r. ⌜ now (out .exit) ≡ pasted at (part from n (now (src .entry))) (now (out .entry)) ⌝ }
 {
@@ -95,6 +107,19 @@ pub fn copy_bytes(src: &[u8], from: usize, n: usize, out: &mut [u8], at: usize)
         out[at + i] = src[from + i];
         i += 1;
     }
+}
+
+// Blocks of a known length, which the compiler makes straight code of.
+pub fn copy_bytes(src: &[u8], from: usize, n: usize, out: &mut [u8], at: usize)
+    requires { ⌜ (from + n ≤ length (now src)) × (at + n ≤ length (now out)) ⌝ }
+    ensures { λ r. ⌜ now (out .exit) ≡ pasted at (part from n (now (src .entry))) (now (out .entry)) ⌝ }
+{
+    let mut i: usize = 0;
+    while 256 <= n - i {
+        copy_by_bytes(src, from + i, 256, out, at + i);
+        i += 256;
+    }
+    copy_by_bytes(src, from + i, n - i, out, at + i);
 }
 
 fn low(byte: u8, n: u64) -> u8

@@ -1,12 +1,12 @@
--- The first i bytes are pasted: a turn is Pastes' `copies-on`.
-use mathlib.Core.Path.{_≡_, refl, ap, _∙_}
-use mathlib.Core.List.{List}
-use Prim.Native.Nat.{ℕ, _+_, _-_, _≤_}
+-- The first i bytes are pasted: a turn is Blocks' `copies-block`, and what is left is `copies-rest`.
+use mathlib.Core.Path.{_≡_, refl, _∙_}
+use Prim.Native.Nat.{_+_, _-_, _≤_}
 use native.Mathlib.Omega.{arith}
-use lib.ListN.{length, getD, set, length-set}
+use lib.ListN.{length}
 use borrow.Author.Needs.{needs}
 use Rattle.places.specs.Bytes.{pasted, part}
-use Rattle.places.proofs.Pastes.{pasted-none, copies-on}
+use Rattle.places.proofs.Pastes.{pasted-none}
+use Rattle.places.proofs.Blocks.{copies-block, copies-rest, length-block}
 use Rattle.places.proofs.inner.copy_bytes.Statement.{statement}
 use Rattle.places.proofs.inner.copy_bytes.Tie as tie
 
@@ -17,20 +17,25 @@ abbrev μ-loop : tie.MeasureT-loop
 μ-loop src from n out₀ at i₀ out i = n - i
 
 loop-holds : tie.Need-loop-holds Inv-loop μ-loop
-loop-holds c = (omega arith, refl, pasted-none (c .args .at) (c .args .out .now))
+loop-holds c = (omega arith, refl, pasted-none (c .before .before .args .at) (c .before .before .args .out .now))
 
 loop-again : tie.Need-loop-again Inv-loop μ-loop
 loop-again c =
-    let l = c .before .before .loop in
-    let a = c .before .before .before .args in
-    (omega arith, simp length-set (l .inv .1), ap (λ (t : List ℕ). set t (a .at + l .i) (getD (a .src .now) (a .from + l .i) 0)) (l .inv .2) ∙ copies-on 0 (a .from) (a .at) (l .i) (l .i + 1) (a .src .now) (a .out .now) (omega arith) (omega arith) (omega arith))
+    let l = c .before .before .before .before .before .loop in
+    let a = c .before .before .before .before .before .before .before .before .args in
+    (omega arith, length-block (a .at + l .i) (a .from + l .i) 256 (a .src .now) (l .out) (omega arith) (omega (arith, l .inv .1)) (c .before .before .copy-by-bytes .ensures) ∙ l .inv .1, copies-block (a .from) (a .at) (l .i) 256 (a .src .now) (a .out .now) (omega arith) (omega arith) (l .inv .2) (c .before .before .copy-by-bytes .ensures))
+
+same-length : tie.Need-same-length Inv-loop μ-loop
+same-length c =
+    let l = c .before .before .before .before .before .loop in
+    let a = c .before .before .before .before .before .before .before .before .args in
+    length-block (a .at + l .i) (a .from + l .i) (a .n - l .i) (a .src .now) (l .out) (omega arith) (omega (arith, l .inv .1)) (c .before .before .copy-by-bytes2 .ensures) ∙ l .inv .1
 
 returns : tie.Need-returns Inv-loop μ-loop
 returns c =
-    let l = c .before .loop in
-    let a = c .before .before .args in
-    let e : l .i ≡ a .n = omega arith in
-    l .inv .2 ∙ ap (λ (k : ℕ). pasted (a .at) (part (a .from) k (a .src .now)) (a .out .now)) e
+    let l = c .before .before .before .before .before .loop in
+    let a = c .before .before .before .before .before .before .before .before .args in
+    copies-rest (a .from) (a .at) (a .n) (l .i) (a .src .now) (a .out .now) (l .inv .0) (omega arith) (omega arith) (l .inv .2) (c .before .before .copy-by-bytes2 .ensures)
 
 pub copy-bytes-spec : {M : Type 1} → statement M
 copy-bytes-spec =
@@ -42,9 +47,13 @@ copy-bytes-spec =
     (λ c. search needs)
     (λ c. search needs)
     (λ c. search needs)
-    (λ c. search needs)
+    (λ c κs. search needs)
     (λ c. search needs)
     (λ c. search needs)
     loop-again
-    (λ c. c .before .loop .inv .1)
+    (λ c. search needs)
+    (λ c. search needs)
+    (λ c. search needs)
+    (λ c κs. search needs)
+    same-length
     returns)

@@ -1,4 +1,4 @@
--- Both copies are `copy_bytes`': the block holds the bytes whole.
+-- Both copies are `copy_by_bytes`': the block holds the bytes whole.
 use native.Mathlib.Omega.{arith}
 use borrow.Author.Needs.{needs}
 use Rattle.places.proofs.Blocks.{by-block}
@@ -9,7 +9,7 @@ returns : tie.Need-returns
 returns c =
     let s = c .before .before .before .before .before .before in
     let x = s .before .before .before .before in
-    by-block (x .args .from) (x .args .to) 256 (x .args .arena .now) _ (search needs) (omega arith) (s .copy-bytes .ensures) (c .before .before .copy-bytes2 .ensures)
+    by-block (x .args .from) (x .args .to) 256 (x .args .arena .now) _ (search needs) (omega arith) (s .copy-by-bytes .ensures) (c .before .before .copy-by-bytes2 .ensures)
 
 pub move-block-spec : {M : Type 1} → statement M
 move-block-spec =

@@ -1,12 +1,12 @@
--- The first i bytes have moved: a turn is Pastes' `moves-down`.
-use mathlib.Core.Path.{_≡_, refl, ap, _∙_}
-use mathlib.Core.List.{List}
-use Prim.Native.Nat.{ℕ, _+_, _-_, _≤_}
+-- The first i bytes have moved: a turn is Blocks' `moves-block-down`, and what is left is `moves-rest-down`.
+use mathlib.Core.Path.{_≡_, refl, _∙_}
+use Prim.Native.Nat.{_+_, _-_, _≤_}
 use native.Mathlib.Omega.{arith}
-use lib.ListN.{length, getD, set, length-set}
+use lib.ListN.{length}
 use borrow.Author.Needs.{needs}
 use Rattle.places.specs.Bytes.{pasted, part}
-use Rattle.places.proofs.Pastes.{pasted-none, moves-down}
+use Rattle.places.proofs.Pastes.{pasted-none}
+use Rattle.places.proofs.Blocks.{moves-block-down, moves-rest-down, length-block}
 use Rattle.places.proofs.inner.move_down.Statement.{statement}
 use Rattle.places.proofs.inner.move_down.Tie as tie
 
@@ -17,20 +17,25 @@ abbrev μ-loop : tie.MeasureT-loop
 μ-loop arena₀ from to n i₀ arena i = n - i
 
 loop-holds : tie.Need-loop-holds Inv-loop μ-loop
-loop-holds c = (omega arith, refl, pasted-none (c .args .to) (c .args .arena .now))
+loop-holds c = (omega arith, refl, pasted-none (c .before .args .to) (c .before .args .arena .now))
 
 loop-again : tie.Need-loop-again Inv-loop μ-loop
 loop-again c =
-    let l = c .before .before .loop in
-    let a = c .before .before .before .args in
-    (omega arith, simp length-set (l .inv .1), ap (λ (t : List ℕ). set t (a .to + l .i) (getD t (a .from + l .i) 0)) (l .inv .2) ∙ moves-down 0 (a .from) (a .to) (l .i) (l .i + 1) (a .arena .now) (omega arith) (omega arith) (omega arith))
+    let l = c .before .before .before .before .before .loop in
+    let a = c .before .before .before .before .before .before .before .args in
+    (omega arith, length-block (a .to + l .i) (a .from + l .i) 256 (l .arena) (l .arena) (omega (arith, l .inv .1)) (omega (arith, l .inv .1)) (c .before .before .move-block .ensures) ∙ l .inv .1, moves-block-down (a .from) (a .to) (l .i) 256 (a .arena .now) (omega arith) (omega arith) (l .inv .2) (c .before .before .move-block .ensures))
+
+same-length : tie.Need-same-length Inv-loop μ-loop
+same-length c =
+    let l = c .before .before .before .before .before .loop in
+    let a = c .before .before .before .before .before .before .before .args in
+    length-block (a .to + l .i) (a .from + l .i) (a .n - l .i) (l .arena) (l .arena) (omega (arith, l .inv .1)) (omega (arith, l .inv .1)) (c .before .before .move-down-by-bytes .ensures) ∙ l .inv .1
 
 returns : tie.Need-returns Inv-loop μ-loop
 returns c =
-    let l = c .before .loop in
-    let a = c .before .before .args in
-    let e : l .i ≡ a .n = omega arith in
-    l .inv .2 ∙ ap (λ (k : ℕ). pasted (a .to) (part (a .from) k (a .arena .now)) (a .arena .now)) e
+    let l = c .before .before .before .before .before .loop in
+    let a = c .before .before .before .before .before .before .before .args in
+    moves-rest-down (a .from) (a .to) (a .n) (l .i) (a .arena .now) (l .inv .0) (omega arith) (omega arith) (l .inv .2) (c .before .before .move-down-by-bytes .ensures)
 
 pub move-down-spec : {M : Type 1} → statement M
 move-down-spec =
@@ -42,9 +47,13 @@ move-down-spec =
     (λ c. search needs)
     (λ c. search needs)
     (λ c. search needs)
-    (λ c. search needs)
+    (λ c κs. search needs)
     (λ c. search needs)
     (λ c. search needs)
     loop-again
-    (λ c. c .before .loop .inv .1)
+    (λ c. search needs)
+    (λ c. search needs)
+    (λ c. search needs)
+    (λ c κs. search needs)
+    same-length
     returns)

@@ -1,12 +1,11 @@
 -- The bytes from i on have moved: a turn is Blocks' `moves-block`, and so is what is left, as a block of i bytes.
-use mathlib.Core.Path.{_≡_, refl, ap, _∙_}
+use mathlib.Core.Path.{_≡_, refl, _∙_}
 use Prim.Native.Nat.{_+_, _-_, _≤_}
 use native.Mathlib.Omega.{arith}
 use lib.ListN.{length}
 use borrow.Author.Needs.{needs}
-use Rattle.places.specs.Bytes.{part}
-use Rattle.places.proofs.Pastes.{length-part, length-pasted, MovedFrom, moves-none}
-use Rattle.places.proofs.Blocks.{moves-block, moves-rest}
+use Rattle.places.proofs.Pastes.{MovedFrom, moves-none}
+use Rattle.places.proofs.Blocks.{moves-block, moves-rest, length-block}
 use Rattle.places.proofs.inner.move_up.Statement.{statement}
 use Rattle.places.proofs.inner.move_up.Tie as tie
 
@@ -24,15 +23,13 @@ loop-again c =
     let l = c .before .before .before .before .before .loop in
     let a = c .before .before .before .before .before .before .before .args in
     let j = l .i - 256 in
-    let b = length-part (a .from + j) 256 (l .arena) (omega (arith, l .inv .1)) in
-    (omega arith, ap length (c .before .before .move-block .ensures) ∙ length-pasted (a .to + j) (part (a .from + j) 256 (l .arena)) (l .arena) (omega (arith, b, l .inv .1)) ∙ l .inv .1, rw (c .before .before .move-block .ensures) (moves-block (a .from) (a .to) (a .n) (l .i) j 256 (a .arena .now) (omega arith) (omega arith) (omega arith) (omega arith) (l .inv .2)))
+    (omega arith, length-block (a .to + j) (a .from + j) 256 (l .arena) (l .arena) (omega (arith, l .inv .1)) (omega (arith, l .inv .1)) (c .before .before .move-block .ensures) ∙ l .inv .1, rw (c .before .before .move-block .ensures) (moves-block (a .from) (a .to) (a .n) (l .i) j 256 (a .arena .now) (omega arith) (omega arith) (omega arith) (omega arith) (l .inv .2)))
 
 same-length : tie.Need-same-length Inv-loop μ-loop
 same-length c =
     let l = c .before .before .before .before .before .loop in
     let a = c .before .before .before .before .before .before .before .args in
-    let b = length-part (a .from) (l .i) (l .arena) (omega (arith, l .inv .1)) in
-    ap length (c .before .before .move-up-by-bytes .ensures) ∙ length-pasted (a .to) (part (a .from) (l .i) (l .arena)) (l .arena) (omega (arith, b, l .inv .1)) ∙ l .inv .1
+    length-block (a .to) (a .from) (l .i) (l .arena) (l .arena) (omega (arith, l .inv .1)) (omega (arith, l .inv .1)) (c .before .before .move-up-by-bytes .ensures) ∙ l .inv .1
 
 returns : tie.Need-returns Inv-loop μ-loop
 returns c =
