@@ -17,9 +17,9 @@ enum How {
 }
 
 #[cfg(chains)]
-const HOW: [(&str, How); 2] = [("inner", How::Inner), ("by the public calls", How::Public)];
+const HOW: [(&str, How); 2] = [("inner", How::Inner), ("public", How::Public)];
 #[cfg(not(chains))]
-const HOW: [(&str, How); 1] = [("by the public calls", How::Public)];
+const HOW: [(&str, How); 1] = [("public", How::Public)];
 
 const FRAGMENTS: usize = 8;
 const BYTES: usize = 1_000;
@@ -246,6 +246,25 @@ impl Ours {
     }
 }
 
+/// What else the program has on its heap. The Rust's messages grow on it, ours don't.
+#[derive(Clone, Copy, PartialEq)]
+enum Heap {
+    /// Nothing that stands in the way: a message grows where it is, and is never copied.
+    Empty,
+    /// Blocks with gaps between them, as where other parts of a program came and went.
+    InUse,
+}
+
+impl Heap {
+    fn blocks(self) -> Vec<Vec<u8>> {
+        let mut random = Random::new(77);
+        let count = if self == Heap::InUse { 2_000 } else { 0 };
+        let mut blocks: Vec<_> = (0..count).map(|_| vec![1; 16 + (random.next() % 6_000) as usize]).collect();
+        blocks.iter_mut().step_by(2).for_each(|block| *block = Vec::new());
+        blocks
+    }
+}
+
 /// How many adds a sample has. With many messages in flight each append moves much, so there are fewer.
 fn adds(flights: usize) -> usize {
     match flights {
@@ -256,20 +275,25 @@ fn adds(flights: usize) -> usize {
 }
 
 pub fn run(timing: &Timing) {
-    for flights in [1, 4, 16, 64, 256, 4_096] {
-        for (name, how) in HOW {
-            let name = format!("chains, {flights} in flight, {name}");
-            if !timing.wants(&name) {
-                continue;
+    for (heap, state) in [(Heap::Empty, "empty heap"), (Heap::InUse, "heap in use")] {
+        let blocks = heap.blocks();
+        for flights in [1, 4, 16, 64, 256, 4_096] {
+            for (name, how) in HOW {
+                let name = format!("chains, {flights} in flight, {name}, {state}");
+                // With many in flight the moves are nearly all, whatever the heap.
+                if !timing.wants(&name) || heap == Heap::Empty && flights > 16 {
+                    continue;
+                }
+                let mut rust = Rust::new(flights);
+                let mut ours = Ours::new(&rust, how);
+                let adds = adds(flights);
+                if rust.run(adds, true) != ours.run(adds, true) {
+                    println!("{name}: the messages differ");
+                    std::process::exit(1);
+                }
+                timing.compare_once(&name, adds, || rust.run(adds, false), || ours.run(adds, false));
             }
-            let mut rust = Rust::new(flights);
-            let mut ours = Ours::new(&rust, how);
-            let adds = adds(flights);
-            if rust.run(adds, true) != ours.run(adds, true) {
-                println!("{name}: the messages differ");
-                std::process::exit(1);
-            }
-            timing.compare_once(&name, adds, || rust.run(adds, false), || ours.run(adds, false));
         }
+        std::hint::black_box(blocks);
     }
 }

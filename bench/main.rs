@@ -58,6 +58,9 @@ fn main() {
         std::process::exit(2);
     };
     timing.title();
+    // First, while the heap is empty.
+    #[cfg(bunch)]
+    chains::run(&timing);
     #[cfg(loops)]
     loops::run(&timing);
     #[cfg(singles)]
@@ -68,6 +71,4 @@ fn main() {
     }
     #[cfg(writes)]
     writes::run(&timing);
-    #[cfg(bunch)]
-    chains::run(&timing);
 }

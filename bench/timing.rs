@@ -27,7 +27,7 @@ fn middle(mut numbers: Vec<f64>) -> f64 {
 
 impl Timing {
     pub fn title(&self) {
-        println!("{:<44}{:>10}{:>10}{:>8}", "case", "Rust ns", "ours ns", "ratio");
+        println!("{:<48}{:>10}{:>10}{:>8}", "case", "Rust ns", "ours ns", "ratio");
     }
 
     pub fn wants(&self, name: &str) -> bool {
@@ -47,7 +47,7 @@ impl Timing {
     fn print(&self, name: &str, operations: usize, measured: Option<(f64, f64, f64)>) {
         if let Some((first, second, ratio)) = measured {
             let scale = 1e9 / operations as f64;
-            println!("{name:<44}{:>10.2}{:>10.2}{ratio:>8.2}", first * scale, second * scale);
+            println!("{name:<48}{:>10.2}{:>10.2}{ratio:>8.2}", first * scale, second * scale);
         }
     }
 
@@ -55,7 +55,7 @@ impl Timing {
     pub fn rates(&self, name: &str, bytes: u64, rust: impl FnMut() -> u64, ours: impl FnMut() -> u64) {
         if let Some((first, second, ratio)) = self.measured(name, SAMPLE_SECONDS, rust, ours) {
             let megabytes = bytes as f64 / 1e6;
-            println!("{name:<44}{:>5.0} MB/s{:>5.0} MB/s{ratio:>8.2}", megabytes / first, megabytes / second);
+            println!("{name:<48}{:>5.0} MB/s{:>5.0} MB/s{ratio:>8.2}", megabytes / first, megabytes / second);
         }
     }
 
