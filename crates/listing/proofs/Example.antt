@@ -16,7 +16,8 @@ use Rattle.packet.specs.Packet.{dataBits, whole, nextBunch}
 use Rattle.log.specs.Log.{versionOf, entryAt, logFrom}
 use Rattle.lines.specs.Decimal.{digitsFrom, decimal, decimalSigned}
 use Rattle.lines.specs.Lines.{bunchLine, packetLine}
-use Rattle.listing.specs.Listing.{listedFrom, listing}
+use Rattle.telling.specs.Listed.{listedFrom}
+use Rattle.listing.specs.Listing.{listing}
 
 -- `01 0005 00000007 300004A034 0006 00000008 04A001000001`
 abbrev log : List ℕ

@@ -16,8 +16,8 @@ use Rattle.packet.specs.Memory.{Memory, memory}
 use Rattle.channels.specs.Fits.{Fits}
 use Rattle.packet.specs.State.{State}
 use Rattle.listing.specs.Input.{Held, Short}
-use Rattle.listing.specs.Turns.{PacketRoom}
-use Rattle.listing.proofs.Telling.{SameSizes}
+use Rattle.telling.specs.Turns.{PacketRoom}
+use Rattle.telling.proofs.Telling.{SameSizes}
 
 pub record Going (buffer₀ out₀ buffer out : List ℕ) (part : Part) (at used : ℕ) (m₀ m : Memory) (s p : ℕ) : Type 0 where
   pub held : Held buffer part

@@ -2,7 +2,7 @@
 ghost use mathlib.Core.Path.{_≡_};
 ghost use Prim.Native.Nat.{_≤_};
 ghost use lib.ListN.{length};
-ghost use Rattle.listing.specs.Turns.{packetRoom, PacketRoom};
+ghost use Rattle.telling.specs.Turns.{packetRoom, PacketRoom};
 use libc::STDERR_FILENO;
 use libc::STDOUT_FILENO;
 

@@ -6,11 +6,10 @@ ghost use Rattle.packet.specs.Memory.{memory};
 ghost use Rattle.packet.specs.State.{State};
 ghost use Rattle.log.specs.Log.{entryAt};
 ghost use Rattle.listing.specs.Input.{Held, Short};
-ghost use Rattle.listing.specs.Turns.{PacketRoom};
+ghost use Rattle.telling.specs.Turns.{PacketRoom};
 use crate::inner::input;
 use crate::inner::input::Part;
 use crate::inner::output;
-use crate::inner::packets;
 use libc::STDERR_FILENO;
 use log::Entry;
 use log::Version;
@@ -82,7 +81,7 @@ fn records(
         } = found {
             let from = start as usize;
             let to = next as usize;
-            let told = packets::tell(
+            let told = telling::inner::tell(
                 &buffer[from..to],
                 id,
                 Reader {

@@ -3,7 +3,7 @@ use mathlib.Core.Path.{refl, sym, _∙_}
 use native.Mathlib.Omega.{arith}
 use lib.ListN.{length-take}
 use Rattle.packet.specs.Memory.{memory}
-use Rattle.listing.proofs.Telling.{same-sizes}
+use Rattle.telling.proofs.Telling.{same-sizes}
 use Rattle.listing.proofs.Going.{Going, lies}
 use borrow.Author.Needs.{needs}
 use Rattle.listing.proofs.inner.run.records.Statement.{statement}

@@ -20,10 +20,10 @@ use Rattle.channels.proofs.Kept.{sequences-back, partials-back}
 use Rattle.lines.specs.Lines.{written, lineRoom}
 use Rattle.lines.specs.Puts.{Put}
 use Rattle.lines.proofs.Texts.{written-append}
-use Rattle.listing.specs.declared.inner.packets.Sums.{Sums}
-use Rattle.listing.specs.Listing.{textOf, goesOn, sums, raised, raisedBy, Listed, after, closing, closed, readAt, listedFrom, listed}
-use Rattle.listing.specs.Turns.{answerText, answerGoesOn, Few, packetRoom, Tells}
-use Rattle.listing.proofs.Moving.{Moves, bits-most, moves}
+use Rattle.telling.specs.declared.inner.Sums.{Sums}
+use Rattle.telling.specs.Listed.{textOf, goesOn, sums, raised, raisedBy, Listed, after, closing, closed, readAt, listedFrom, listed}
+use Rattle.telling.specs.Turns.{answerText, answerGoesOn, Few, packetRoom, Tells}
+use Rattle.telling.proofs.Moving.{Moves, bits-most, moves}
 
 -- what is laid is read back
 pub laid-back : (t : Channels) (m : Memory) → channelsOf (length (t .sequences)) (length (t .partials)) (laidIn t m) ≡ t

@@ -1,9 +1,9 @@
 -- A bunch's line, or nothing.
 use mathlib.Core.Path.{refl}
-use Rattle.listing.proofs.Telling.{no-text}
+use Rattle.telling.proofs.Telling.{no-text}
 use borrow.Author.Needs.{needs}
-use Rattle.listing.proofs.inner.packets.show.Statement.{statement}
-use Rattle.listing.proofs.inner.packets.show.Tie as tie
+use Rattle.telling.proofs.inner.show.Statement.{statement}
+use Rattle.telling.proofs.inner.show.Tie as tie
 
 returns : tie.Need-returns
 returns c =

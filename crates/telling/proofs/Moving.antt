@@ -16,8 +16,8 @@ use Rattle.packet.specs.Packet.{Channels, Read, lastByte, dataBits, rest, ended
 use Rattle.channels.specs.Sequences.{Numbered, numbered}
 use Rattle.channels.specs.Partials.{Tracked, tracking}
 use Rattle.header.proofs.Within.{within}
-use Rattle.listing.specs.Listing.{goesOn}
-use Rattle.listing.proofs.Gains.{gains-fields}
+use Rattle.telling.specs.Listed.{goesOn}
+use Rattle.telling.proofs.Gains.{gains-fields}
 
 pub record Moves (bits at : ℕ) (x : Read) : Type 0 where
   pub forward : at ≤ x .next

@@ -2,8 +2,8 @@
 use mathlib.Core.Path.{refl}
 use mir.Syntax.{w32}
 use mir.ValLaws.{toZ-ofZ}
-use Rattle.listing.proofs.inner.packets.line_of.Statement.{statement}
-use Rattle.listing.proofs.inner.packets.line_of.Tie as tie
+use Rattle.telling.proofs.inner.line_of.Statement.{statement}
+use Rattle.telling.proofs.inner.line_of.Tie as tie
 
 returns : tie.Need-returns
 returns c =

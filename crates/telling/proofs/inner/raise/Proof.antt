@@ -1,8 +1,8 @@
 -- Each sum is of its own count.
 use mathlib.Core.Path.{refl}
 use borrow.Author.Needs.{needs}
-use Rattle.listing.proofs.inner.packets.raise.Statement.{statement}
-use Rattle.listing.proofs.inner.packets.raise.Tie as tie
+use Rattle.telling.proofs.inner.raise.Statement.{statement}
+use Rattle.telling.proofs.inner.raise.Tie as tie
 
 returns : tie.Need-returns
 returns c = refl

@@ -2,8 +2,8 @@
 use mir.Syntax.{w32}
 use mir.ValLaws.{toZ-ofZ}
 use borrow.Author.Needs.{needs}
-use Rattle.listing.proofs.inner.packets.close.Statement.{statement}
-use Rattle.listing.proofs.inner.packets.close.Tie as tie
+use Rattle.telling.proofs.inner.close.Statement.{statement}
+use Rattle.telling.proofs.inner.close.Tie as tie
 
 returns : tie.Need-returns
 returns c = rw (toZ-ofZ w32 (c .before .before .before .before .before .before .args .id) (c .before .before .before .before .before .before .fits .id)) at (c .before .before .packet-line .ensures)

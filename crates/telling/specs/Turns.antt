@@ -1,4 +1,4 @@
--- What the contracts of the program's functions name: an answer's line, the room that a packet needs, and what its listing leaves.
+-- What the contracts of `inner` name: an answer's line, the room that a packet needs, and what its listing leaves.
 use Prim.Native.Nat.{ℕ, _+_, _≤_}
 use mathlib.Core.Path.{_≡_}
 use mathlib.Core.Bool.{Bool, true, false}
@@ -8,9 +8,9 @@ use Rattle.packet.specs.declared.Bunch.{Bunch}
 use Rattle.packet.specs.Memory.{Memory, channelsOf}
 use Rattle.packet.specs.State.{State}
 use Rattle.lines.specs.Lines.{bunchLine, written}
-use Rattle.listing.specs.declared.inner.packets.Sums.{Sums}
-use Rattle.listing.specs.declared.inner.packets.Told.{Told}
-use Rattle.listing.specs.Listing.{Listed, lineOf}
+use Rattle.telling.specs.declared.inner.Sums.{Sums}
+use Rattle.telling.specs.declared.inner.Told.{Told}
+use Rattle.telling.specs.Listed.{Listed, lineOf}
 
 abbrev pub answerText : Bunch → List ℕ
 answerText (Bunch.Read h w) = bunchLine (lineOf h)

@@ -8,10 +8,10 @@ use mir.ValLaws.{toZ-ofZ}
 use Rattle.packet.specs.Packet.{dataBits}
 use Rattle.packet.specs.Memory.{memory, channelsOf}
 use Rattle.packet.specs.State.{State}
-use Rattle.listing.specs.Listing.{listed}
-use Rattle.listing.proofs.Telling.{SameSizes, same-sizes, Telling, begins, turned, nearer, few-sums, told}
-use Rattle.listing.proofs.inner.packets.tell.Statement.{statement}
-use Rattle.listing.proofs.inner.packets.tell.Tie as tie
+use Rattle.telling.specs.Listed.{listed}
+use Rattle.telling.proofs.Telling.{SameSizes, same-sizes, Telling, begins, turned, nearer, few-sums, told}
+use Rattle.telling.proofs.inner.tell.Statement.{statement}
+use Rattle.telling.proofs.inner.tell.Tie as tie
 
 abbrev Inv-loop : tie.InvT-loop
 Inv-loop packet id out₀ used sequence-channels₀ sequence-numbers₀ partial-channels₀ partial-sequences₀ partial-reliables₀ word limit sequences₀ partials₀ at₀ end₀ sums₀ more₀ out sequence-channels sequence-numbers partial-channels partial-sequences partial-reliables sequences partials at end sums more =

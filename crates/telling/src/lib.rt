@@ -1,0 +1,2 @@
+// One packet's part of the listing, into a buffer in which any packet finds room.
+pub mod inner;
