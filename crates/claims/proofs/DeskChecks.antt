@@ -6,7 +6,7 @@ use Rattle.window.specs.Refusals.{endless, tooLarge, zeroMaximum, unresolved}
 use Rattle.window.specs.Parse.{_>>=_, _>>_, give, refuse, refuseIf, readIf, place}
 use Rattle.window.specs.Reads.{dataFits, windowFits, cursorFits, sound, need, taken, bits, packedFrom, packed, log2, serialized, readPacked, readSerialized}
 use Rattle.window.specs.Reads.{bit, readBit}
-use Rattle.packet.specs.Packet.{dataBits, nextBunch}
+use Rattle.reading.specs.Packet.{dataBits, nextBunch}
 use Rattle.field.specs.Records.{remaining, payload, counted, repLayout, call, classNetCache}
 use Rattle.field.specs.Walks.{walk, parseRepLayout, parseClassNetCache}
 use Rattle.claims.specs.DeskChecks.{deskChecks, Hold}

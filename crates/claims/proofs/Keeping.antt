@@ -10,13 +10,14 @@ use mir.Syntax.{w32}
 use mir.Val.{ofZ}
 use borrow.Author.Tests.{le-leb}
 use Rattle.types.specs.Types.{mostChannels}
-use Rattle.packet.specs.declared.Reader.{Reader}
-use Rattle.packet.specs.Packet.{dataBits}
-use Rattle.packet.specs.Memory.{Memory, fit, sound}
-use Rattle.packet.specs.State.{State}
-use Rattle.packet.specs.Answers.{Reply, readBunch}
+use Rattle.reading.specs.declared.Reader.{Reader}
+use Rattle.reading.specs.Packet.{dataBits}
+use Rattle.reading.specs.Memory.{Memory, fit, sound}
+use Rattle.reading.specs.State.{State}
+use Rattle.reading.specs.Answers.{Reply}
+use Rattle.packet.specs.Answers.{readBunch}
 use Rattle.packet.proofs.Soundness.{state}
-use Rattle.packet.proofs.Lasting.{state-after}
+use Rattle.reading.proofs.Lasting.{state-after}
 use Rattle.claims.specs.RoundTrip.{after}
 
 abbrev pub Sound : Reader → Memory → Type 0

@@ -12,7 +12,7 @@ use lib.Pow.{pow-pos}
 use lib.Seq.{length-take-le, getD-take}
 use borrow.Author.Tests.{ne-eqb}
 use Rattle.bits.specs.Bits.{bitAt}
-use Rattle.packet.specs.Packet.{lastByte, dataBits}
+use Rattle.reading.specs.Packet.{lastByte, dataBits}
 use Rattle.writer.specs.Bits.{bitsFrom, put}
 use Rattle.writer.specs.Answers.{roomOf}
 use Rattle.writer.proofs.Lists.{put-append}

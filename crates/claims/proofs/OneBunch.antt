@@ -14,10 +14,11 @@ use Rattle.window.specs.Parse.{value}
 use Rattle.types.specs.declared.RawBunchHeader.{RawBunchHeader}
 use Rattle.header.specs.declared.BunchFields.{BunchFields}
 use Rattle.header.specs.Header.{readable, headerOf, fields}
-use Rattle.packet.specs.declared.Reader.{Reader}
-use Rattle.packet.specs.Packet.{Channels, rest, header, payload, nextBunch}
-use Rattle.packet.specs.Memory.{Memory, channelsOf}
-use Rattle.packet.specs.Answers.{Reply, reply, readBunch}
+use Rattle.reading.specs.declared.Reader.{Reader}
+use Rattle.reading.specs.Packet.{Channels, rest, header, payload, nextBunch}
+use Rattle.reading.specs.Memory.{Memory, channelsOf}
+use Rattle.reading.specs.Answers.{Reply, reply}
+use Rattle.packet.specs.Answers.{readBunch}
 use Rattle.packet.proofs.Calls.{answered}
 use Rattle.writer.specs.Bits.{bitsFrom}
 use Rattle.writer.specs.Header.{fieldsOf, headerBits, writable}

@@ -10,9 +10,10 @@ use lib.ListN.{length, take, length-append}
 use mir.Syntax.{w32}
 use mir.Val.{ofZ}
 use Rattle.window.specs.Parse.{value}
-use Rattle.packet.specs.declared.Reader.{Reader}
-use Rattle.packet.specs.Memory.{Memory, channelsOf}
-use Rattle.packet.specs.Answers.{Reply, readBunch}
+use Rattle.reading.specs.declared.Reader.{Reader}
+use Rattle.reading.specs.Memory.{Memory, channelsOf}
+use Rattle.reading.specs.Answers.{Reply}
+use Rattle.packet.specs.Answers.{readBunch}
 use Rattle.writer.specs.Bits.{bitsFrom}
 use Rattle.writer.specs.Answers as Writing
 use Rattle.writer.proofs.Reading.{in-a-row}

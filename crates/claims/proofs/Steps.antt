@@ -9,7 +9,7 @@ use Rattle.header.specs.declared.BunchFields.{BunchFields}
 use Rattle.header.specs.Header.{readable, headerOf, fields}
 use Rattle.channels.specs.Sequences.{Numbered, numbered}
 use Rattle.channels.specs.Partials.{Tracked, tracking}
-use Rattle.packet.specs.Packet.{Channels, Read, bunch, end, header, payload, rest, whole, nextBunch}
+use Rattle.reading.specs.Packet.{Channels, Read, bunch, end, header, payload, rest, whole, nextBunch}
 use Rattle.claims.proofs.Marks.{Marked}
 
 module _ (limit id : ℕ) (t : Channels) (d : List ℕ) {bits : ℕ} (m : Marked d bits) where

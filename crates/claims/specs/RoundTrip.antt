@@ -8,11 +8,11 @@ use lib.ListN.{take}
 use Rattle.window.specs.declared.Window.{Window}
 use Rattle.window.specs.Parse.{Result, value, refusal}
 use Rattle.types.specs.declared.RawBunchHeader.{RawBunchHeader}
-use Rattle.packet.specs.declared.Reader.{Reader}
-use Rattle.packet.specs.Packet.{Outcome, bunch, end, dataBits}
-use Rattle.packet.specs.Memory.{Memory, sound}
+use Rattle.reading.specs.declared.Reader.{Reader}
+use Rattle.reading.specs.Packet.{Outcome, bunch, end, dataBits}
+use Rattle.reading.specs.Memory.{Memory, sound}
 use Rattle.packet.specs.Answers.{readBunch}
-use Rattle.packet.specs.Answers as Reading
+use Rattle.reading.specs.Answers as Reading
 use Rattle.writer.specs.Bits.{bitsFrom}
 use Rattle.writer.specs.Answers.{Reply, refuses, writeBunch, closePacket}
 

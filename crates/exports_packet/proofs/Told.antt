@@ -2,9 +2,9 @@
 use Prim.Native.Nat.{ℕ}
 use mathlib.Core.Path.{_≡_, ap, _∙_}
 use mathlib.Core.List.{List}
-use Rattle.packet.specs.declared.BunchRead.{BunchRead}
-use Rattle.packet.specs.Memory.{Memory}
-use Rattle.packet.specs.Answers.{Reply, ofRead}
+use Rattle.reading.specs.declared.BunchRead.{BunchRead}
+use Rattle.reading.specs.Memory.{Memory}
+use Rattle.reading.specs.Answers.{Reply, ofRead}
 use Rattle.exports_packet.specs.Packets.{bunchWords}
 
 pub told-bunch : (x : BunchRead) {m : Memory} {y : Reply} {r : List ℕ} → ofRead x m ≡ y → ((k : Memory) → r ≡ bunchWords (ofRead x k)) → (r ≡ bunchWords y) × (m ≡ y .memory)

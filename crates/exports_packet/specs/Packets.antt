@@ -3,9 +3,9 @@ use Prim.Native.Nat.{ℕ}
 use mathlib.Core.List.{List, [], _∷_, _++_}
 use lib.ListN.{getD}
 use Rattle.window.specs.Parse.{Result, value, refusal}
-use Rattle.packet.specs.declared.Reader.{Reader}
-use Rattle.packet.specs.Packet.{Outcome, bunch, end, malformed}
-use Rattle.packet.specs.Answers.{Reply}
+use Rattle.reading.specs.declared.Reader.{Reader}
+use Rattle.reading.specs.Packet.{Outcome, bunch, end, malformed}
+use Rattle.reading.specs.Answers.{Reply}
 use Rattle.words.specs.Words.{headerWords}
 use Rattle.answers.specs.Words.{window}
 

@@ -1,13 +1,13 @@
 // The packet reader. Opening writes four words, reading a bunch 34; the tables are five lent columns.
 ghost use mathlib.Core.Path.{_≡_};
-ghost use Rattle.packet.specs.Memory.{memory};
+ghost use Rattle.reading.specs.Memory.{memory};
 ghost use Rattle.packet.specs.Answers.{opened, readBunch};
 ghost use Rattle.exports_packet.specs.Packets.{bunchWords, readerWords};
 use crate::bunches;
 use crate::bunches::BunchWords;
 use crate::bunches::ReaderWords;
-use packet::Reader;
 use packet::packets;
+use reading::Reader;
 use window::PacketBit;
 
 #[no_mangle]

@@ -12,7 +12,7 @@ use Rattle.types.specs.Types.{reasonOf}
 use Rattle.header.specs.Header.{fields}
 use Rattle.channels.specs.Sequences.{following, reliably, unreliable, numbered}
 use Rattle.channels.specs.Partials.{continues, judged, tracking}
-use Rattle.packet.specs.Packet.{dataBits, whole, nextBunch}
+use Rattle.reading.specs.Packet.{dataBits, whole, nextBunch}
 use Rattle.log.specs.Log.{versionOf, entryAt, logFrom}
 use Rattle.lines.specs.Decimal.{digitsFrom, decimal, decimalSigned}
 use Rattle.lines.specs.Lines.{bunchLine, packetLine}

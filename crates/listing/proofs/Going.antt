@@ -12,9 +12,9 @@ use Rattle.log.specs.Log.{versionOf, entryAt}
 use Rattle.log.proofs.Steps.{within}
 use Rattle.listing.specs.declared.inner.input.Part.{Part}
 use Rattle.tables.specs.Columns.{ascending}
-use Rattle.packet.specs.Memory.{Memory, memory}
+use Rattle.reading.specs.Memory.{Memory, memory}
 use Rattle.channels.specs.Fits.{Fits}
-use Rattle.packet.specs.State.{State}
+use Rattle.reading.specs.State.{State}
 use Rattle.listing.specs.Input.{Held, Short}
 use Rattle.telling.specs.Turns.{PacketRoom}
 use Rattle.telling.proofs.Telling.{SameSizes}

@@ -1,7 +1,7 @@
 -- Document 01's "Writer and log": the listing of a log, its packets' texts one after the other and how it ends.
 use Prim.Native.Nat.{ℕ}
 use mathlib.Core.List.{List, [], _∷_, _++_}
-use Rattle.packet.specs.Packet.{Channels}
+use Rattle.reading.specs.Packet.{Channels}
 use Rattle.log.specs.Log.{Packet, Ending, whole, otherVersion, cut, logOf}
 use Rattle.lines.specs.Lines.{versionLine, cutLine}
 use Rattle.telling.specs.Listed.{listed}

@@ -9,10 +9,11 @@ use mir.Syntax.{w32}
 use mir.Val.{ofZ}
 use borrow.Author.Tests.{le-ltb, lt-ltb}
 use Rattle.window.specs.Refusals.{beyond, packetTooLong, unsound}
-use Rattle.packet.specs.declared.Reader.{Reader}
-use Rattle.packet.specs.Packet.{dataBits, nextBunch}
-use Rattle.packet.specs.Memory.{Memory, channelsOf, sound}
-use Rattle.packet.specs.Answers.{reply, refuses, readBunch}
+use Rattle.reading.specs.declared.Reader.{Reader}
+use Rattle.reading.specs.Packet.{dataBits, nextBunch}
+use Rattle.reading.specs.Memory.{Memory, channelsOf, sound}
+use Rattle.reading.specs.Answers.{reply}
+use Rattle.packet.specs.Answers.{refuses, readBunch}
 
 module _ (d : List ℕ) (id : ℤ) (at : ℕ) (r : Reader) (m : Memory) where
   pub ten : sound (r .«max_channels») (r .sequences) (r .partials) m ≡ false → refuses unsound at r m ≡ readBunch d id at r m

@@ -6,14 +6,15 @@ use lib.ListN.{getD}
 use Rattle.window.specs.Refusals.{Refusal, beyond, packetTooLong, unfit, unsound}
 use Rattle.window.specs.Parse.{Result, value, refusal}
 use Rattle.bitio.proofs.Determined.{determined}
-use Rattle.packet.specs.declared.PacketError.{PacketError}
-use Rattle.packet.specs.declared.Bunch.{Bunch}
-use Rattle.packet.specs.declared.BunchRead.{BunchRead}
-use Rattle.packet.specs.declared.Reader.{Reader}
+use Rattle.reading.specs.declared.PacketError.{PacketError}
+use Rattle.reading.specs.declared.Bunch.{Bunch}
+use Rattle.reading.specs.declared.BunchRead.{BunchRead}
+use Rattle.reading.specs.declared.Reader.{Reader}
 use Rattle.packet.specs.declared.Opened.{Opened}
-use Rattle.packet.specs.Packet as P
-use Rattle.packet.specs.Memory.{Memory}
-use Rattle.packet.specs.Answers.{packetPaper, Reply, bunchAnswer, ofRead, ofOpened}
+use Rattle.reading.specs.Packet as P
+use Rattle.reading.specs.Memory.{Memory}
+use Rattle.reading.specs.Answers.{packetPaper, Reply, bunchAnswer, ofRead}
+use Rattle.packet.specs.Answers.{ofOpened}
 
 -- a refusal by its number and what it returns
 unpacket : Refusal → PacketError

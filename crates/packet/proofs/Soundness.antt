@@ -8,8 +8,8 @@ use borrow.Author.Tests.{leb-true}
 use Rattle.tables.specs.Columns.{ascending}
 use Rattle.tables.proofs.Ascending.{both}
 use Rattle.types.specs.Types.{mostChannels}
-use Rattle.packet.specs.Memory.{Memory, fitting, fit, sound}
-use Rattle.packet.specs.State.{State}
+use Rattle.reading.specs.Memory.{Memory, fitting, fit, sound}
+use Rattle.reading.specs.State.{State}
 
 pub record Rooms (limit a b c d e : ℕ) : Type 0 where
   pub few : limit ≤ mostChannels

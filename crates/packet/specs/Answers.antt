@@ -9,67 +9,11 @@ use mir.Syntax.{w32}
 use mir.Val.{ofZ}
 use Rattle.window.specs.Refusals.{Refusal, beyond, packetTooLong, unfit, unsound}
 use Rattle.window.specs.Parse.{Result, value, refusal}
-use Rattle.packet.specs.declared.PacketError.{PacketError}
-use Rattle.packet.specs.declared.Bunch.{Bunch}
-use Rattle.packet.specs.declared.BunchRead.{BunchRead}
-use Rattle.packet.specs.declared.Reader.{Reader}
+use Rattle.reading.specs.declared.Reader.{Reader}
+use Rattle.reading.specs.Packet as P
+use Rattle.reading.specs.Memory.{Memory, channelsOf, fit, sound}
+use Rattle.reading.specs.Answers.{packetPaper, Reply, reply}
 use Rattle.packet.specs.declared.Opened.{Opened}
-use Rattle.packet.specs.Packet as P
-use Rattle.packet.specs.Memory.{Memory, channelsOf, laidIn, fit, sound}
-
--- the paper's number and values for each case
-abbrev pub packetPaper : PacketError → Refusal
-packetPaper (PacketError.CursorPastEnd position available) = beyond position available
-packetPaper (PacketError.PacketTooLong length) = packetTooLong length
-packetPaper PacketError.Unfit = unfit
-packetPaper PacketError.Unsound = unsound
-
--- a bunch or a refusal, the next cursor, the rises, the live places, and the lent memory
-pub record Reply : Type 0 where
-  pub answer : Result P.Outcome
-  pub next : ℕ
-  pub bunches : ℕ
-  pub malformedPackets : ℕ
-  pub partialErrors : ℕ
-  pub channelLimits : ℕ
-  pub sequences : ℕ
-  pub partials : ℕ
-  pub memory : Memory
-
-abbrev pub bunchAnswer : Bunch → Result P.Outcome
-bunchAnswer (Bunch.Read h w) = value (P.bunch h w)
-bunchAnswer Bunch.End = value P.end
-bunchAnswer Bunch.Malformed = value P.malformed
-bunchAnswer (Bunch.Refused e) = refusal (packetPaper e)
-
-abbrev pub ofRead : BunchRead → Memory → Reply
-ofRead r m =
-    record {
-      answer = bunchAnswer (r .answer);
-      next = r .next .0;
-      bunches = r .bunches;
-      malformedPackets = r .malformed;
-      partialErrors = r .«partial_errors»;
-      channelLimits = r .«channel_limit»;
-      sequences = r .sequences;
-      partials = r .partials;
-      memory = m;
-    }
-
--- A place that a retired channel leaves keeps what stood there.
-abbrev pub reply : P.Read → Memory → Reply
-reply x m =
-    record {
-      answer = value (x .outcome);
-      next = x .next;
-      bunches = x .bunches;
-      malformedPackets = x .malformedPackets;
-      partialErrors = x .partialErrors;
-      channelLimits = x .channelLimits;
-      sequences = length (x .channels .sequences);
-      partials = length (x .channels .partials);
-      memory = laidIn (x .channels) (laidIn (x .held) m);
-    }
 
 -- "These change no lent byte or state."
 abbrev pub refuses : Refusal → ℕ → Reader → Memory → Reply

@@ -1,5 +1,1 @@
-pub mod Packet
-pub mod Memory
-pub mod State
 pub mod Answers
-pub mod Turns

@@ -1,52 +1,8 @@
 // The packet reader, one bunch a call: vrf-net/src/packet.rs over lent tables.
-use types::RawBunchHeader;
-use window::PacketBit;
-use window::Window;
+use reading::PacketError;
+use reading::Reader;
 
-pub mod inner;
 pub mod packets;
-
-// The Rust's `RawPacketReader` without its maps, which are lent: its limit, and how many places of each table count.
-pub struct Reader {
-    pub max_channels: usize,
-    pub sequences: usize,
-    pub partials: usize,
-}
-
-// Why a call refused, each case with document 01's number.
-pub enum PacketError {
-    // 5
-    CursorPastEnd { position: u64, available: u64 },
-    // 8
-    PacketTooLong { length: u64 },
-    // 9
-    Unfit,
-    // 10
-    Unsound,
-}
-
-// What stands at the cursor.
-pub enum Bunch {
-    Read {
-        header: RawBunchHeader,
-        payload: Window,
-    },
-    End,
-    Malformed,
-    Refused(PacketError),
-}
-
-// The next cursor, by how much the Rust's counts rise, and how many places of each table then count.
-pub struct BunchRead {
-    pub answer: Bunch,
-    pub next: PacketBit,
-    pub bunches: u32,
-    pub malformed: u32,
-    pub partial_errors: u32,
-    pub channel_limit: u32,
-    pub sequences: usize,
-    pub partials: usize,
-}
 
 pub enum Opened {
     Value(Reader),

@@ -1,16 +1,17 @@
 // The public calls: opening over lent tables, and the bunch at a cursor.
 ghost use mathlib.Core.Path.{_≡_};
 ghost use lib.ListN.{length};
-ghost use Rattle.packet.specs.Memory.{Memory, memory, fitting, fit, sound};
-ghost use Rattle.packet.specs.Answers.{ofOpened, opened, ofRead, readBunch, refuses, packetPaper};
-use crate::Bunch;
-use crate::BunchRead;
+ghost use Rattle.reading.specs.Memory.{Memory, memory, fitting, fit, sound};
+ghost use Rattle.reading.specs.Answers.{ofRead, packetPaper};
+ghost use Rattle.packet.specs.Answers.{ofOpened, opened, readBunch, refuses};
 use crate::Opened;
-use crate::PacketError;
-use crate::Reader;
-use crate::inner::bunch;
-use crate::inner::read;
 use bits::inner::signed;
+use reading::Bunch;
+use reading::BunchRead;
+use reading::PacketError;
+use reading::Reader;
+use reading::inner::bunch;
+use reading::inner::read;
 use tables::inner;
 use window::PacketBit;
 

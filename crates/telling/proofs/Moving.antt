@@ -12,7 +12,7 @@ use mir.Val.{boolByte}
 use Rattle.window.specs.Parse.{Answer, got, refused}
 use Rattle.header.specs.declared.BunchFields.{BunchFields}
 use Rattle.header.specs.Header.{readable, headerOf, fields}
-use Rattle.packet.specs.Packet.{Channels, Read, lastByte, dataBits, rest, ended, broken, whole, headed, nextBunch}
+use Rattle.reading.specs.Packet.{Channels, Read, lastByte, dataBits, rest, ended, broken, whole, headed, nextBunch}
 use Rattle.channels.specs.Sequences.{Numbered, numbered}
 use Rattle.channels.specs.Partials.{Tracked, tracking}
 use Rattle.header.proofs.Within.{within}

@@ -10,12 +10,12 @@ use lib.ListN.{length, length-append}
 use mir.Syntax.{w32}
 use mir.Val.{ofZ, boolByte}
 use Rattle.window.specs.Parse.{value}
-use Rattle.packet.specs.declared.Bunch.{Bunch}
-use Rattle.packet.specs.declared.BunchRead.{BunchRead}
-use Rattle.packet.specs.Packet.{Channels, Outcome, bunch, end, malformed, Read, dataBits, nextBunch}
-use Rattle.packet.specs.Memory.{Memory, channelsOf, laidIn}
-use Rattle.packet.specs.State.{State}
-use Rattle.packet.specs.Answers.{Reply, bunchAnswer, ofRead, reply}
+use Rattle.reading.specs.declared.Bunch.{Bunch}
+use Rattle.reading.specs.declared.BunchRead.{BunchRead}
+use Rattle.reading.specs.Packet.{Channels, Outcome, bunch, end, malformed, Read, dataBits, nextBunch}
+use Rattle.reading.specs.Memory.{Memory, channelsOf, laidIn}
+use Rattle.reading.specs.State.{State}
+use Rattle.reading.specs.Answers.{Reply, bunchAnswer, ofRead, reply}
 use Rattle.channels.proofs.Kept.{sequences-back, partials-back}
 use Rattle.lines.specs.Lines.{written, lineRoom}
 use Rattle.lines.specs.Puts.{Put}

@@ -7,7 +7,7 @@ use lib.IntN.{ℤ}
 use mir.Syntax.{w32}
 use mir.Val.{ofZ}
 use Rattle.types.specs.declared.RawBunchHeader.{RawBunchHeader}
-use Rattle.packet.specs.Packet.{Channels, Outcome, bunch, end, malformed, Read, dataBits, nextBunch}
+use Rattle.reading.specs.Packet.{Channels, Outcome, bunch, end, malformed, Read, dataBits, nextBunch}
 use Rattle.lines.specs.declared.BunchLine.{BunchLine}
 use Rattle.lines.specs.Lines.{bunchLine, packetLine}
 use Rattle.telling.specs.declared.inner.Sums.{Sums}

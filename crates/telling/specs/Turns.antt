@@ -4,9 +4,9 @@ use mathlib.Core.Path.{_≡_}
 use mathlib.Core.Bool.{Bool, true, false}
 use mathlib.Core.List.{List, []}
 use lib.ListN.{length}
-use Rattle.packet.specs.declared.Bunch.{Bunch}
-use Rattle.packet.specs.Memory.{Memory, channelsOf}
-use Rattle.packet.specs.State.{State}
+use Rattle.reading.specs.declared.Bunch.{Bunch}
+use Rattle.reading.specs.Memory.{Memory, channelsOf}
+use Rattle.reading.specs.State.{State}
 use Rattle.lines.specs.Lines.{bunchLine, written}
 use Rattle.telling.specs.declared.inner.Sums.{Sums}
 use Rattle.telling.specs.declared.inner.Told.{Told}

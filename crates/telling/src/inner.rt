@@ -3,8 +3,8 @@ ghost use mathlib.Core.Path.{_≡_};
 ghost use mathlib.Core.Bool.{false};
 ghost use Prim.Native.Nat.{_+_, _≤_};
 ghost use lib.ListN.{length};
-ghost use Rattle.packet.specs.Memory.{memory, channelsOf};
-ghost use Rattle.packet.specs.State.{State};
+ghost use Rattle.reading.specs.Memory.{memory, channelsOf};
+ghost use Rattle.reading.specs.State.{State};
 ghost use Rattle.lines.specs.Lines.{lineRoom};
 ghost use Rattle.lines.specs.Puts.{Put};
 ghost use Rattle.telling.specs.Listed.{lineOf, raised, closing, listed};
@@ -12,10 +12,10 @@ ghost use Rattle.telling.specs.Turns.{answerText, answerGoesOn, Few, Pac
 use bits::inner::signed;
 use lines::BunchLine;
 use lines::PacketLine;
-use packet::Bunch;
-use packet::BunchRead;
-use packet::Reader;
-use packet::inner::read;
+use reading::Bunch;
+use reading::BunchRead;
+use reading::Reader;
+use reading::inner::read;
 use types::RawBunchHeader;
 
 // What the reads of a packet have raised.

@@ -2,15 +2,15 @@
 ghost use mathlib.Core.Path.{_≡_};
 ghost use Prim.Native.Nat.{_≤_};
 ghost use lib.ListN.{length};
-ghost use Rattle.packet.specs.Packet.{dataBits, nextBunch};
-ghost use Rattle.packet.specs.Memory.{memory, channelsOf};
-ghost use Rattle.packet.specs.State.{State};
-ghost use Rattle.packet.specs.Answers.{reply};
+ghost use Rattle.reading.specs.Packet.{dataBits, nextBunch};
+ghost use Rattle.reading.specs.Memory.{memory, channelsOf};
+ghost use Rattle.reading.specs.State.{State};
+ghost use Rattle.reading.specs.Answers.{reply};
 ghost use Rattle.exports_packet.specs.Packets.{bunchWords};
 use exports_packet::bunches;
 use exports_packet::bunches::BunchWords;
-use packet::Reader;
-use packet::inner::read;
+use reading::Reader;
+use reading::inner::read;
 
 #[no_mangle]
 pub extern "C" fn timing_read_bunch(

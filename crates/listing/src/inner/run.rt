@@ -2,8 +2,8 @@
 ghost use mathlib.Core.Path.{_≡_};
 ghost use Prim.Native.Nat.{_≤_};
 ghost use lib.ListN.{length};
-ghost use Rattle.packet.specs.Memory.{memory};
-ghost use Rattle.packet.specs.State.{State};
+ghost use Rattle.reading.specs.Memory.{memory};
+ghost use Rattle.reading.specs.State.{State};
 ghost use Rattle.log.specs.Log.{entryAt};
 ghost use Rattle.listing.specs.Input.{Held, Short};
 ghost use Rattle.telling.specs.Turns.{PacketRoom};
@@ -13,7 +13,7 @@ use crate::inner::output;
 use libc::STDERR_FILENO;
 use log::Entry;
 use log::Version;
-use packet::Reader;
+use reading::Reader;
 
 fn cut(out: &mut [u8], used: usize, offset: u64)
     requires { ⌜ PacketRoom (now out) used ⌝ }

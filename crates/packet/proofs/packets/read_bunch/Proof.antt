@@ -4,7 +4,7 @@ use borrow.Author.Tests.{not-true, not-false}
 use mir.Syntax.{w32}
 use mir.Val.{ofZ}
 use mir.ValLaws.{toZ-ofZ}
-use Rattle.packet.specs.Memory.{memory}
+use Rattle.reading.specs.Memory.{memory}
 use Rattle.packet.proofs.Soundness.{state}
 use Rattle.packet.proofs.Calls.{ten, eight, five, answered}
 use borrow.Author.Needs.{needs}

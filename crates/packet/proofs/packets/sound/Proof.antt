@@ -3,7 +3,7 @@ use Prim.Native.Nat.{_≤_}
 use mathlib.Core.Path.{sym}
 use native.Mathlib.Omega.{arith}
 use lib.ListN.{length}
-use Rattle.packet.specs.Memory.{fit, sound}
+use Rattle.reading.specs.Memory.{fit, sound}
 use Rattle.packet.proofs.Soundness.{lives}
 use borrow.Author.Needs.{needs}
 use Rattle.packet.proofs.packets.sound.Statement.{statement}

@@ -1,6 +1,6 @@
 -- Both ways of the test.
 use mathlib.Core.Path.{sym, _∙_}
-use Rattle.packet.specs.Memory.{fit}
+use Rattle.reading.specs.Memory.{fit}
 use Rattle.packet.specs.Answers.{opened}
 use borrow.Author.Needs.{needs}
 use Rattle.packet.proofs.packets.with_max_channels.Statement.{statement}

@@ -5,9 +5,9 @@ use native.Mathlib.Omega.{arith}
 use mir.Syntax.{w32}
 use mir.Val.{toZ, boolByte}
 use mir.ValLaws.{toZ-ofZ}
-use Rattle.packet.specs.Packet.{dataBits}
-use Rattle.packet.specs.Memory.{memory, channelsOf}
-use Rattle.packet.specs.State.{State}
+use Rattle.reading.specs.Packet.{dataBits}
+use Rattle.reading.specs.Memory.{memory, channelsOf}
+use Rattle.reading.specs.State.{State}
 use Rattle.telling.specs.Listed.{listed}
 use Rattle.telling.proofs.Telling.{SameSizes, same-sizes, Telling, begins, turned, nearer, few-sums, told}
 use Rattle.telling.proofs.inner.tell.Statement.{statement}

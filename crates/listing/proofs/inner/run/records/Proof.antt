@@ -2,7 +2,7 @@
 use mathlib.Core.Path.{refl, sym, _∙_}
 use native.Mathlib.Omega.{arith}
 use lib.ListN.{length-take}
-use Rattle.packet.specs.Memory.{memory}
+use Rattle.reading.specs.Memory.{memory}
 use Rattle.telling.proofs.Telling.{same-sizes}
 use Rattle.listing.proofs.Going.{Going, lies}
 use borrow.Author.Needs.{needs}

@@ -1,0 +1,5 @@
+pub mod Packet
+pub mod Memory
+pub mod State
+pub mod Answers
+pub mod Turns
