@@ -17,7 +17,7 @@ use Rattle.channels.specs.declared.inner.partials.Verdict.{Verdict}
 use Rattle.channels.specs.Partials.{Partial, Effect, stays, puts, Tracked, tracked, initial, judged, fragment}
 use Rattle.channels.specs.Judging.{effectOf, verdictOf}
 use Rattle.channels.specs.Places.{TrackedIn, partialsAt, partialsLaid}
-use Rattle.channels.specs.Fits.{Live}
+use Rattle.sequences.specs.Fits.{Live}
 use Rattle.channels.proofs.Tracking.{Bears, same-bears, inside, there, put-bears, without-bears, absent, untouched, new-bears}
 
 abbrev answer : Bool → Bool → ℕ → List ℕ → List ℕ → List ℕ → TrackedIn

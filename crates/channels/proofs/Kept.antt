@@ -14,10 +14,11 @@ use Rattle.tables.proofs.Columns.{take-laid, length-laid, beside-whole}
 use Rattle.tables.proofs.Puts.{without-none, without-ascends, put-ascends, length-put-new, length-put-there, length-without-there}
 use Rattle.tables.proofs.Held.{holds}
 use Rattle.header.specs.declared.BunchFields.{BunchFields}
-use Rattle.channels.specs.Sequences.{lastSequence, following, flagged, stored, onward, reliably, unreliable, numbered}
+use Rattle.sequences.specs.Sequences.{lastSequence, following, flagged, stored, onward, reliably, unreliable, numbered}
 use Rattle.channels.specs.Partials.{Partial, Effect, stays, puts, removed, tracked, effected, inFlight, fragment, tracking}
-use Rattle.channels.specs.Places.{sequencesAt, partialsAt}
-use Rattle.channels.specs.Fits.{Fits}
+use Rattle.sequences.specs.Places.{sequencesAt}
+use Rattle.channels.specs.Places.{partialsAt}
+use Rattle.sequences.specs.Fits.{Fits}
 use Rattle.channels.proofs.Tracking.{same-bears, lives, roomy}
 use Rattle.channels.proofs.Effects.{puts-unfilled}
 

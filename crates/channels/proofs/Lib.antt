@@ -1,4 +1,3 @@
-pub mod Numbering
 pub mod Tracking
 pub mod Effects
 pub mod Retiring

@@ -13,7 +13,7 @@ use Rattle.tables.proofs.Join.{at-get, free-get, free-without, at-live, free-li
 use Rattle.tables.proofs.Held.{Holds, holds, at-put-holds, at-without-holds, free-put-holds}
 use Rattle.channels.specs.Partials.{Partial}
 use Rattle.channels.specs.Places.{partialsAt}
-use Rattle.channels.specs.Fits.{Fits, Live}
+use Rattle.sequences.specs.Fits.{Fits, Live}
 
 pub lives : {limit live : ℕ} {ch : List ℕ} → Fits limit live ch → Live live ch
 lives h =

@@ -6,7 +6,7 @@ use lib.ListN.{length}
 use mir.Val.{boolByte}
 use Rattle.tables.specs.Tables.{Table, Found, none, found, get, put, without}
 use Rattle.header.specs.declared.BunchFields.{BunchFields}
-use Rattle.channels.specs.Sequences.{lastSequence, following}
+use Rattle.sequences.specs.Sequences.{lastSequence, following}
 
 -- what is in flight on a channel: the last fragment's sequence, and a word that is 0 where it is not reliable
 abbrev pub Partial : Type 0

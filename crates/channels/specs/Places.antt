@@ -1,4 +1,4 @@
--- A table in its lent columns: what they hold, and what the contracts of `inner` name of an edit.
+-- The tracker's table in its lent columns: what they hold, and what the contracts of `inner` name of an edit.
 use Prim.Native.Nat.{ℕ}
 use mathlib.Core.Path.{_≡_}
 use mathlib.Core.Bool.{Bool}
@@ -8,38 +8,12 @@ use Rattle.tables.specs.Columns.{laid, beside}
 use Rattle.tables.specs.Tables.{Table, channels, values, entries}
 use Rattle.header.specs.declared.BunchFields.{BunchFields}
 use Rattle.channels.specs.Partials.{Partial, Tracked, effected, inFlight, fragment, tracking}
-use Rattle.channels.specs.Sequences.{Numbered}
-use Rattle.channels.specs.declared.inner.sequences.Numbered as I
 use Rattle.channels.specs.declared.inner.partials.Tracked as T
-
-abbrev pub sequencesAt : ℕ → List ℕ → List ℕ → Table ℕ
-sequencesAt live channels numbers = entries (take live channels) (take live numbers)
 
 abbrev pub partialsAt : ℕ → List ℕ → List ℕ → List ℕ → Table Partial
 partialsAt live channels sequences reliables = entries (take live channels) (beside (take live sequences) (take live reliables))
 
--- What the contracts of `inner` name: a table's numbering, its answer and its columns together.
-pub record NumberedIn : Type 0 where
-  pub sequence : ℕ
-  pub limited : Bool
-  pub live : ℕ
-  pub channels : List ℕ
-  pub numbers : List ℕ
-
-abbrev pub numberedIn : I.Numbered → List ℕ → List ℕ → NumberedIn
-numberedIn r channels numbers = record { sequence = r .sequence; limited = r .limited; live = r .live; channels = channels; numbers = numbers }
-
-abbrev pub sequencesLaid : Numbered → List ℕ → List ℕ → NumberedIn
-sequencesLaid n channels' numbers' =
-    record {
-      sequence = n .sequence;
-      limited = n .limited;
-      live = length (n .table);
-      channels = laid (channels (n .table)) channels';
-      numbers = laid (values (n .table)) numbers';
-    }
-
--- the same of the partial tracker
+-- What the contracts of `inner` name: a fragment's tracking, its answer and its columns together.
 pub record TrackedIn : Type 0 where
   pub error : Bool
   pub completed : Bool
@@ -76,11 +50,6 @@ tracksTo limit live f sequence limited channels' sequences' reliables' =
     effectedIn (tracking limit f sequence limited (partialsAt live channels' sequences' reliables')) f sequence (partialsAt live channels' sequences' reliables') channels' sequences' reliables'
 
 -- columns after a table was put first in them, and how many of their places then count
-pub record LaidSequences (t : Table ℕ) (channels' numbers' : List ℕ) (live : ℕ) (channels'' numbers'' : List ℕ) : Type 0 where
-  pub live-is : live ≡ length t
-  pub channels-are : channels'' ≡ laid (channels t) channels'
-  pub numbers-are : numbers'' ≡ laid (values t) numbers'
-
 pub record LaidPartials (t : Table Partial) (channels' sequences' reliables' : List ℕ) (live : ℕ) (channels'' sequences'' reliables'' : List ℕ) : Type 0 where
   pub live-is : live ≡ length t
   pub channels-are : channels'' ≡ laid (channels t) channels'

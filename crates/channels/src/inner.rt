@@ -1,4 +1,3 @@
 // A table's edits, over columns that have been tested.
 pub mod partials;
 pub mod retire;
-pub mod sequences;

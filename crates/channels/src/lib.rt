@@ -1,2 +1,2 @@
-// What the packet reader keeps of its channels, in lent columns: sequences and messages in flight. Follows vrf-net/src/packet.rs.
+// What the packet reader keeps of the messages in flight, in lent columns. Follows vrf-net/src/packet.rs.
 pub mod inner;

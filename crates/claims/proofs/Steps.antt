@@ -7,7 +7,7 @@ use native.Mathlib.Omega.{arith}
 use borrow.Author.Tests.{le-leb, lt-leb, le-ltb}
 use Rattle.header.specs.declared.BunchFields.{BunchFields}
 use Rattle.header.specs.Header.{readable, headerOf, fields}
-use Rattle.channels.specs.Sequences.{Numbered, numbered}
+use Rattle.sequences.specs.Sequences.{Numbered, numbered}
 use Rattle.channels.specs.Partials.{Tracked, tracking}
 use Rattle.reading.specs.Packet.{Channels, Read, bunch, end, header, payload, rest, whole, nextBunch}
 use Rattle.claims.proofs.Marks.{Marked}

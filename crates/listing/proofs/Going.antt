@@ -13,7 +13,7 @@ use Rattle.log.proofs.Steps.{within}
 use Rattle.listing.specs.declared.inner.input.Part.{Part}
 use Rattle.tables.specs.Columns.{ascending}
 use Rattle.reading.specs.Memory.{Memory, memory}
-use Rattle.channels.specs.Fits.{Fits}
+use Rattle.sequences.specs.Fits.{Fits}
 use Rattle.reading.specs.State.{State}
 use Rattle.listing.specs.Input.{Held, Short}
 use Rattle.telling.specs.Turns.{PacketRoom}

@@ -8,10 +8,10 @@ use Rattle.tables.specs.Columns.{laid}
 use Rattle.tables.specs.Tables.{Table, channels, values}
 use Rattle.tables.proofs.Columns.{laid-twice}
 use Rattle.header.specs.declared.BunchFields.{BunchFields}
-use Rattle.channels.specs.declared.inner.sequences.Numbered as I
-use Rattle.channels.specs.Sequences.{Numbered, numbered}
+use Rattle.sequences.specs.declared.inner.Numbered as I
+use Rattle.sequences.specs.Sequences.{Numbered, numbered}
 use Rattle.reading.specs.Packet.{malformed, whole}
-use Rattle.channels.specs.Places.{sequencesAt, NumberedIn, numberedIn, sequencesLaid}
+use Rattle.sequences.specs.Places.{sequencesAt, NumberedIn, numberedIn, sequencesLaid}
 use Rattle.reading.specs.Memory.{Memory, memory, channelsOf, laidIn}
 use Rattle.reading.specs.State.{State}
 use Rattle.reading.specs.Turns.{stopping, settles, finishes}

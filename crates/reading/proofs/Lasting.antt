@@ -8,7 +8,7 @@ use lib.ListN.{length, length-map}
 use Rattle.tables.specs.Tables.{channels, values}
 use Rattle.header.specs.declared.BunchFields.{BunchFields}
 use Rattle.header.specs.Header.{Header, unreadable, readable, headerOf, fields}
-use Rattle.channels.specs.Sequences.{numbered}
+use Rattle.sequences.specs.Sequences.{numbered}
 use Rattle.channels.specs.Partials.{Partial, tracking}
 use Rattle.reading.specs.Packet.{Channels, Read, lastByte, dataBits, rest, holding, retired, retires, whole, headed, nextBunch}
 use Rattle.reading.specs.Memory.{Memory, channelsOf, laidIn}

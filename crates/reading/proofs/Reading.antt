@@ -14,9 +14,10 @@ use Rattle.tables.proofs.Held.{Holds, holds}
 use Rattle.header.specs.Header.{Header, unreadable, readable, headerOf, fields}
 use Rattle.header.specs.declared.inner.HeaderRead.{HeaderRead}
 use Rattle.header.specs.Row.{headerRead}
-use Rattle.channels.specs.Sequences.{numbered}
+use Rattle.sequences.specs.Sequences.{numbered}
 use Rattle.reading.specs.Packet.{compared, Channels, end, malformed, lastByte, dataBits, rest, ended, broken, headed, nextBunch}
-use Rattle.channels.specs.Places.{sequencesAt, partialsAt}
+use Rattle.sequences.specs.Places.{sequencesAt}
+use Rattle.channels.specs.Places.{partialsAt}
 use Rattle.reading.specs.Memory.{Memory, channelsOf, laidIn}
 use Rattle.reading.specs.State.{State}
 use Rattle.reading.specs.Answers.{reply}

@@ -10,9 +10,10 @@ use Rattle.tables.proofs.Columns.{laid-take, laid-twice}
 use Rattle.header.specs.declared.BunchFields.{BunchFields}
 use Rattle.channels.specs.Partials.{Partial, Tracked, tracking, effected, inFlight}
 use Rattle.reading.specs.Packet.{retires, whole}
-use Rattle.channels.specs.Places.{sequencesAt, partialsAt, TrackedIn, trackedIn, tracksTo, LaidSequences, LaidPartials}
+use Rattle.sequences.specs.Places.{sequencesAt, LaidSequences}
+use Rattle.channels.specs.Places.{partialsAt, TrackedIn, trackedIn, tracksTo, LaidPartials}
 use Rattle.reading.specs.Memory.{Memory, memory, channelsOf, laidIn}
-use Rattle.channels.specs.Fits.{Fits}
+use Rattle.sequences.specs.Fits.{Fits}
 use Rattle.reading.specs.State.{State}
 use Rattle.reading.specs.Turns.{handedOut, settles}
 use Rattle.channels.specs.declared.inner.partials.Tracked as T

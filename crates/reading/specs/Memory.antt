@@ -8,7 +8,8 @@ use Rattle.tables.specs.Columns.{laid, ascending}
 use Rattle.tables.specs.Tables.{channels, values}
 use Rattle.types.specs.Types.{mostChannels}
 use Rattle.reading.specs.Packet.{Channels}
-use Rattle.channels.specs.Places.{sequencesAt, partialsAt}
+use Rattle.sequences.specs.Places.{sequencesAt}
+use Rattle.channels.specs.Places.{partialsAt}
 
 pub record Memory : Type 0 where
   pub sequenceChannels : List ℕ

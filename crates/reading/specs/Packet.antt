@@ -14,7 +14,7 @@ use Rattle.types.specs.declared.PartialSequenceKind.{PartialSequenceKind}
 use Rattle.types.specs.Types.{reasonOf}
 use Rattle.header.specs.declared.BunchFields.{BunchFields}
 use Rattle.header.specs.Header.{Header, unreadable, readable, headerOf, fields}
-use Rattle.channels.specs.Sequences.{Numbered, numbered}
+use Rattle.sequences.specs.Sequences.{Numbered, numbered}
 use Rattle.channels.specs.Partials.{Partial, Tracked, tracking, effected, inFlight}
 
 -- the reader's two tables

@@ -1,7 +1,7 @@
 -- What the test of the lent tables leaves true of both: what `inner` requires.
 use Prim.Native.Nat.{ℕ, _≤_}
 use lib.ListN.{length}
-use Rattle.channels.specs.Fits.{Fits}
+use Rattle.sequences.specs.Fits.{Fits}
 use Rattle.reading.specs.Memory.{Memory}
 
 -- both tables

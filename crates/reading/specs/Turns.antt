@@ -5,7 +5,7 @@ use mir.Val.{boolByte}
 use Rattle.window.specs.Parse.{value}
 use Rattle.header.specs.declared.BunchFields.{BunchFields}
 use Rattle.reading.specs.Packet.{Outcome, bunch, header, payload, whole, compared}
-use Rattle.channels.specs.Sequences.{numbered}
+use Rattle.sequences.specs.Sequences.{numbered}
 use Rattle.channels.specs.Partials.{tracking}
 use Rattle.reading.specs.Memory.{Memory, channelsOf}
 use Rattle.reading.specs.Answers.{Reply, reply}

@@ -13,7 +13,7 @@ use Rattle.window.specs.Parse.{Answer, got, refused}
 use Rattle.header.specs.declared.BunchFields.{BunchFields}
 use Rattle.header.specs.Header.{readable, headerOf, fields}
 use Rattle.reading.specs.Packet.{Channels, Read, lastByte, dataBits, rest, ended, broken, whole, headed, nextBunch}
-use Rattle.channels.specs.Sequences.{Numbered, numbered}
+use Rattle.sequences.specs.Sequences.{Numbered, numbered}
 use Rattle.channels.specs.Partials.{Tracked, tracking}
 use Rattle.header.proofs.Within.{within}
 use Rattle.telling.specs.Listed.{goesOn}

@@ -7,10 +7,10 @@ ghost use Rattle.tables.specs.Tables.{slotOf};
 ghost use Rattle.channels.specs.Partials.{agree, continues, tracked, initial, continuing, judged};
 ghost use Rattle.channels.specs.Judging.{Roomy, heldOf, effectOf, verdictOf};
 ghost use Rattle.channels.specs.Places.{partialsAt, trackedIn, effectedIn, fragmentTo, tracksTo};
-ghost use Rattle.channels.specs.Fits.{Fits, Live};
+ghost use Rattle.sequences.specs.Fits.{Fits, Live};
 use crate::inner::retire::take_out;
-use crate::inner::sequences::following;
 use header::BunchFields;
+use sequences::inner::following;
 use tables::Slot;
 use tables::inner;
 

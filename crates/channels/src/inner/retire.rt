@@ -1,32 +1,13 @@
-// A channel taken out of a table: the Rust's `retire_channel`, a table at a time.
+// A channel taken out of the partial tracker: the Rust's `retire_channel`, for this table.
 ghost use mathlib.Core.Path.{_≡_};
 ghost use Prim.Native.Nat.{suc, _≤_, _<_};
 ghost use lib.ListN.{length, take};
 ghost use Rattle.tables.specs.Columns.{laid, removedAt};
 ghost use Rattle.tables.specs.Tables.{without};
-ghost use Rattle.channels.specs.Places.{sequencesAt, partialsAt, LaidSequences, LaidPartials};
-ghost use Rattle.channels.specs.Fits.{Live};
+ghost use Rattle.channels.specs.Places.{partialsAt, LaidPartials};
+ghost use Rattle.sequences.specs.Fits.{Live};
 use tables::Slot;
 use tables::inner;
-
-pub fn retire_sequence(
-    channels: &mut [u32],
-    numbers: &mut [u32],
-    live: usize,
-    channel: u32,
-) -> usize
-    requires { ⌜ Live live (now channels) × (live ≤ length (now numbers)) ⌝ }
-    ensures { λ r. ⌜ LaidSequences (without channel (sequencesAt live (now (channels .entry)) (now (numbers .entry)))) (now (channels .entry)) (now (numbers .entry)) r (now (channels .exit)) (now (numbers .exit)) ⌝ }
-{
-    match inner::find(channels, live, channel) {
-        Slot::At(i) => {
-            inner::remove(channels, live, i);
-            inner::remove(numbers, live, i);
-            live - 1
-        }
-        Slot::Free(_) => live,
-    }
-}
 
 // Place i falls vacant in each column of the partial tracker.
 pub fn take_out(

@@ -4,14 +4,13 @@ ghost use Prim.Native.Nat.{_*_, _≤_, _<_};
 ghost use lib.Count.{leadingZeros};
 ghost use lib.ListN.{length};
 ghost use Rattle.window.specs.Reads.{largestData};
-ghost use Rattle.channels.specs.Sequences.{unreliable, numbered};
+ghost use Rattle.sequences.specs.Sequences.{unreliable, numbered};
 ghost use Rattle.reading.specs.Packet.{dataBits, header};
-ghost use Rattle.channels.specs.Places.{sequencesAt, numberedIn, sequencesLaid};
-ghost use Rattle.channels.specs.Fits.{Fits};
+ghost use Rattle.sequences.specs.Places.{sequencesAt, numberedIn, sequencesLaid};
+ghost use Rattle.sequences.specs.Fits.{Fits};
 use bits::inner::signed;
-use channels::inner::sequences;
-use channels::inner::sequences::Numbered;
 use header::BunchFields;
+use sequences::inner::Numbered;
 use types::PartialSequenceKind;
 use types::RawBunchHeader;
 
@@ -57,7 +56,7 @@ pub fn number(
     ensures { λ r. ⌜ numberedIn r (now (channels .exit)) (now (numbers .exit)) ≡ sequencesLaid (numbered limit id f (sequencesAt live (now (channels .entry)) (now (numbers .entry)))) (now (channels .entry)) (now (numbers .entry)) ⌝ }
 {
     if f.b_reliable {
-        return sequences::reliably(channels, numbers, live, limit, f.ch_index);
+        return sequences::inner::reliably(channels, numbers, live, limit, f.ch_index);
     }
     Numbered {
         sequence: unreliable(f, id),

@@ -16,9 +16,9 @@ use crate::Reader;
 use crate::inner::bunch;
 use channels::inner::partials;
 use channels::inner::retire;
-use channels::inner::sequences::Numbered;
 use header::BunchFields;
 use header::inner;
+use sequences::inner::Numbered;
 use window::PacketBit;
 use window::Window;
 use window::WindowBit;
@@ -127,7 +127,12 @@ fn settle(
         n.limited,
     );
     if retires(f) {
-        let s = retire::retire_sequence(sequence_channels, sequence_numbers, n.live, f.ch_index);
+        let s = sequences::inner::retire_sequence(
+            sequence_channels,
+            sequence_numbers,
+            n.live,
+            f.ch_index,
+        );
         let p = retire::retire_partial(
             partial_channels,
             partial_sequences,

@@ -1,8 +1,8 @@
 -- A reliable bunch's sequence is `reliably`'s; any other leaves the table as it is.
 use mathlib.Core.Path.{sym}
 use mathlib.Core.Bool.{false}
-use Rattle.channels.specs.Sequences.{numbered, unreliable}
-use Rattle.channels.proofs.Numbering.{same-sequences}
+use Rattle.sequences.specs.Sequences.{numbered, unreliable}
+use Rattle.sequences.proofs.Numbering.{same-sequences}
 use borrow.Author.Needs.{needs}
 use Rattle.reading.proofs.inner.bunch.number.Statement.{statement}
 use Rattle.reading.proofs.inner.bunch.number.Tie as tie

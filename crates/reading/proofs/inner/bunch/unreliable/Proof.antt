@@ -1,5 +1,5 @@
 -- Both ways of the test.
-use Rattle.channels.specs.Sequences.{unreliable}
+use Rattle.sequences.specs.Sequences.{unreliable}
 use Rattle.reading.proofs.inner.bunch.unreliable.Statement.{statement}
 use Rattle.reading.proofs.inner.bunch.unreliable.Tie as tie
 

@@ -3,10 +3,10 @@ use Prim.Native.Nat.{suc, _-_}
 use mathlib.Core.Path.{_≡_, sym, _∙_}
 use native.Mathlib.Omega.{arith}
 use Rattle.tables.proofs.Join.{at-live}
-use Rattle.channels.proofs.Retiring.{sequence-gone, sequence-absent}
+use Rattle.sequences.proofs.Retiring.{sequence-gone, sequence-absent}
 use borrow.Author.Needs.{needs}
-use Rattle.channels.proofs.inner.retire.retire_sequence.Statement.{statement}
-use Rattle.channels.proofs.inner.retire.retire_sequence.Tie as tie
+use Rattle.sequences.proofs.inner.retire_sequence.Statement.{statement}
+use Rattle.sequences.proofs.inner.retire_sequence.Tie as tie
 
 remove-requires : tie.Need-remove-requires
 remove-requires c κs =

@@ -2,9 +2,10 @@
 ghost use mathlib.Core.Path.{_≡_};
 ghost use Prim.Native.Nat.{_≤_};
 ghost use lib.ListN.{length};
-ghost use Rattle.channels.specs.Sequences.{following, reliably};
-ghost use Rattle.channels.specs.Places.{sequencesAt, numberedIn, sequencesLaid};
-ghost use Rattle.channels.specs.Fits.{Fits};
+ghost use Rattle.tables.specs.Tables.{without};
+ghost use Rattle.sequences.specs.Sequences.{following, reliably};
+ghost use Rattle.sequences.specs.Places.{sequencesAt, numberedIn, sequencesLaid, LaidSequences};
+ghost use Rattle.sequences.specs.Fits.{Fits, Live};
 use tables::Slot;
 use tables::inner;
 
@@ -64,5 +65,25 @@ pub fn reliably(
                 live: live + 1,
             }
         }
+    }
+}
+
+// The channel's place falls vacant: the Rust's `retire_channel`, for this table.
+pub fn retire_sequence(
+    channels: &mut [u32],
+    numbers: &mut [u32],
+    live: usize,
+    channel: u32,
+) -> usize
+    requires { ⌜ Live live (now channels) × (live ≤ length (now numbers)) ⌝ }
+    ensures { λ r. ⌜ LaidSequences (without channel (sequencesAt live (now (channels .entry)) (now (numbers .entry)))) (now (channels .entry)) (now (numbers .entry)) r (now (channels .exit)) (now (numbers .exit)) ⌝ }
+{
+    match inner::find(channels, live, channel) {
+        Slot::At(i) => {
+            inner::remove(channels, live, i);
+            inner::remove(numbers, live, i);
+            live - 1
+        }
+        Slot::Free(_) => live,
     }
 }

@@ -1,8 +1,8 @@
 -- The last word goes on at 0.
 use native.Mathlib.Omega.{arith}
-use Rattle.channels.specs.Sequences.{following}
-use Rattle.channels.proofs.inner.sequences.following.Statement.{statement}
-use Rattle.channels.proofs.inner.sequences.following.Tie as tie
+use Rattle.sequences.specs.Sequences.{following}
+use Rattle.sequences.proofs.inner.following.Statement.{statement}
+use Rattle.sequences.proofs.inner.following.Tie as tie
 
 returns : tie.Need-returns
 unfolding following

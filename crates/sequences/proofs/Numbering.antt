@@ -13,9 +13,9 @@ use Rattle.tables.specs.Tables.{Table, none, found, get, slotOf}
 use Rattle.tables.proofs.Columns.{laid-take, laid-set}
 use Rattle.tables.proofs.Join.{at-within, at-get, free-within, free-get}
 use Rattle.tables.proofs.Held.{Holds, holds, at-put-holds, free-put-holds}
-use Rattle.channels.specs.Sequences.{lastSequence, following, reliably}
-use Rattle.channels.specs.Places.{sequencesAt, sequencesLaid}
-use Rattle.channels.specs.Fits.{Fits}
+use Rattle.sequences.specs.Sequences.{lastSequence, following, reliably}
+use Rattle.sequences.specs.Places.{sequencesAt, sequencesLaid}
+use Rattle.sequences.specs.Fits.{Fits}
 
 laid-as : (ch nu : List ℕ) {t : Table ℕ} {cs vs : List ℕ} {n word : ℕ} {limited : Bool} → Holds t cs vs n
     → sequencesLaid (record { sequence = word; limited = limited; table = t }) ch nu ≡ record { sequence = word; limited = limited; live = n; channels = laid cs ch; numbers = laid vs nu }

@@ -3,10 +3,10 @@ use Prim.Native.Nat.{suc, _+_, _≤_}
 use mathlib.Core.Path.{_≡_, sym, _∙_}
 use native.Mathlib.Omega.{arith}
 use lib.ListN.{length}
-use Rattle.channels.proofs.Numbering.{at-inside, at-last, at-next, free-inside, free-full, free-new}
+use Rattle.sequences.proofs.Numbering.{at-inside, at-last, at-next, free-inside, free-full, free-new}
 use borrow.Author.Needs.{needs}
-use Rattle.channels.proofs.inner.sequences.reliably.Statement.{statement}
-use Rattle.channels.proofs.inner.sequences.reliably.Tie as tie
+use Rattle.sequences.proofs.inner.reliably.Statement.{statement}
+use Rattle.sequences.proofs.inner.reliably.Tie as tie
 
 find-requires : tie.Need-find-requires
 find-requires c κs =
