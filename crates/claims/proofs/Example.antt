@@ -11,8 +11,8 @@ use Rattle.window.specs.Reads.{log2}
 use Rattle.types.specs.declared.ChannelCloseReason.{ChannelCloseReason}
 use Rattle.types.specs.declared.PartialSequenceKind.{PartialSequenceKind}
 use Rattle.types.specs.declared.RawBunchHeader.{RawBunchHeader}
-use Rattle.writer.specs.Bits.{bitsOf, bitsFrom, onlyIf, packedUpTo, packedBits, serializedBits, putBit, put}
-use Rattle.writer.specs.Header.{fieldsOf, headerBits, bunchBits, writable}
+use Rattle.spelling.specs.Bits.{bitsOf, bitsFrom, onlyIf, packedUpTo, packedBits, serializedBits, putBit, put}
+use Rattle.spelling.specs.Header.{fieldsOf, headerBits, bunchBits, writable}
 use Rattle.writer.specs.Answers.{added, writeBunch, closePacket}
 use Rattle.claims.specs.RoundTrip.{writes}
 

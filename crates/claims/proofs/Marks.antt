@@ -13,11 +13,11 @@ use lib.Seq.{length-take-le, getD-take}
 use borrow.Author.Tests.{ne-eqb}
 use Rattle.bits.specs.Bits.{bitAt}
 use Rattle.reading.specs.Packet.{lastByte, dataBits}
-use Rattle.writer.specs.Bits.{bitsFrom, put}
+use Rattle.spelling.specs.Bits.{bitsFrom, put}
 use Rattle.writer.specs.Answers.{roomOf}
-use Rattle.writer.proofs.Lists.{put-append}
+use Rattle.spelling.proofs.Lists.{put-append}
 use Rattle.writer.proofs.OneBit.{changed, byte-there}
-use Rattle.writer.proofs.Lists.{length-put}
+use Rattle.spelling.proofs.Lists.{length-put}
 use Rattle.writer.proofs.Puts.{bits-put-are-there, from-before-stays, same-bits}
 
 -- data of so many bits, and a mark after them

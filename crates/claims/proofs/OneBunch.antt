@@ -20,9 +20,9 @@ use Rattle.reading.specs.Memory.{Memory, channelsOf}
 use Rattle.reading.specs.Answers.{Reply, reply}
 use Rattle.packet.specs.Answers.{readBunch}
 use Rattle.packet.proofs.Calls.{answered}
-use Rattle.writer.specs.Bits.{bitsFrom}
-use Rattle.writer.specs.Header.{fieldsOf, headerBits, writable}
-use Rattle.writer.proofs.Allowed.{reason-back, dormant-back, sayable}
+use Rattle.spelling.specs.Bits.{bitsFrom}
+use Rattle.spelling.specs.Header.{fieldsOf, headerBits, writable}
+use Rattle.spelling.proofs.Allowed.{reason-back, dormant-back, sayable}
 use Rattle.writer.proofs.Bunches.{BunchBack, length-bunch, bunch-has-bits, bunch-reads}
 use Rattle.claims.specs.RoundTrip.{Handed, SameFields, SameBunch}
 use Rattle.claims.proofs.Rows.{bitsOfOne, Tested}

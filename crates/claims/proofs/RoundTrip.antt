@@ -14,9 +14,9 @@ use Rattle.reading.specs.declared.Reader.{Reader}
 use Rattle.reading.specs.Memory.{Memory, channelsOf}
 use Rattle.reading.specs.Answers.{Reply}
 use Rattle.packet.specs.Answers.{readBunch}
-use Rattle.writer.specs.Bits.{bitsFrom}
+use Rattle.spelling.specs.Bits.{bitsFrom}
 use Rattle.writer.specs.Answers as Writing
-use Rattle.writer.proofs.Reading.{in-a-row}
+use Rattle.spelling.proofs.Reading.{in-a-row}
 use Rattle.claims.specs.RoundTrip.{Handed, after, ReadsBack, ChannelsAreU32, RoundTrip}
 use Rattle.claims.proofs.Rows.{bitsOfOne, bitsOfAll, AllTested, row}
 use Rattle.claims.proofs.Marks.{Marked, packet, packet-marked, packet-holds}

@@ -7,11 +7,11 @@ use native.Mathlib.Nat.{add-zero}
 use native.Mathlib.Omega.{arith}
 use lib.ListN.{length, length-append}
 use Rattle.window.specs.Parse.{Result, value, refusal}
-use Rattle.writer.specs.Bits.{put}
-use Rattle.writer.specs.Header.{bunchBits, writable}
+use Rattle.spelling.specs.Bits.{put}
+use Rattle.spelling.specs.Header.{bunchBits, writable}
 use Rattle.writer.specs.Answers.{Reply, roomOf, writeBunch}
-use Rattle.writer.proofs.Lists.{put-append}
-use Rattle.writer.proofs.Lists.{length-put}
+use Rattle.spelling.proofs.Lists.{put-append}
+use Rattle.spelling.proofs.Lists.{length-put}
 use Rattle.writer.proofs.Accepted.{wrote, accepted, closed}
 use Rattle.claims.specs.RoundTrip.{Handed, onward, writes}
 

@@ -13,7 +13,7 @@ use Rattle.reading.specs.Packet.{Outcome, bunch, end, dataBits}
 use Rattle.reading.specs.Memory.{Memory, sound}
 use Rattle.packet.specs.Answers.{readBunch}
 use Rattle.reading.specs.Answers as Reading
-use Rattle.writer.specs.Bits.{bitsFrom}
+use Rattle.spelling.specs.Bits.{bitsFrom}
 use Rattle.writer.specs.Answers.{Reply, refuses, writeBunch, closePacket}
 
 -- what a call of the writer is handed: a header, the payload's bytes, and how many of their bits count

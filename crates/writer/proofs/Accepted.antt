@@ -9,8 +9,8 @@ use borrow.Author.Tests.{ltb-false}
 use Rattle.window.specs.Refusals.{Refusal, beyond, payloadTooLong, payloadShort, unwritable, noRoom}
 use Rattle.window.specs.Parse.{value}
 use Rattle.types.specs.declared.RawBunchHeader.{RawBunchHeader}
-use Rattle.writer.specs.Bits.{put}
-use Rattle.writer.specs.Header.{bunchBits, writable}
+use Rattle.spelling.specs.Bits.{put}
+use Rattle.spelling.specs.Header.{bunchBits, writable}
 use Rattle.writer.specs.Answers.{Reply, refuses, roomOf, bitsWith, added, writeBunch, closePacket}
 
 -- the bits at the cursor, and up to which bit the packet is then written

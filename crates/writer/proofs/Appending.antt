@@ -6,11 +6,11 @@ use mathlib.Core.List.{List, _∷_, _++_, append-assoc}
 use native.Mathlib.Omega.{arith}
 use lib.ListN.{length, length-append}
 use Rattle.header.specs.declared.BunchFields.{BunchFields}
-use Rattle.writer.specs.declared.inner.Bits.{Bits}
-use Rattle.writer.specs.Bits.{bitsOf, bitsFrom, put}
-use Rattle.writer.specs.Header.{headerBits}
-use Rattle.writer.specs.Words.{spelt, Adds, nothing, front, back}
-use Rattle.writer.proofs.Lists.{length-bitsOf, length-bitsFrom, put-append}
+use Rattle.spelling.specs.declared.inner.Bits.{Bits}
+use Rattle.spelling.specs.Bits.{bitsOf, bitsFrom, put}
+use Rattle.spelling.specs.Header.{headerBits}
+use Rattle.spelling.specs.Words.{spelt, Adds, nothing, front, back}
+use Rattle.spelling.proofs.Lists.{length-bitsOf, length-bitsFrom, put-append}
 
 pub in-two : (f : BunchFields) → headerBits f ≡ front f ++ back f
 unfolding headerBits front back

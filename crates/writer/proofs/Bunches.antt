@@ -8,11 +8,11 @@ use Rattle.window.specs.declared.Window.{Window}
 use Rattle.window.specs.Parse.{got, advanced}
 use Rattle.types.specs.declared.RawBunchHeader.{RawBunchHeader}
 use Rattle.header.specs.Header.{fields}
-use Rattle.writer.specs.Bits.{bitsFrom, put}
-use Rattle.writer.specs.Header.{fieldsOf, headerBits, bunchBits}
-use Rattle.writer.proofs.Lists.{length-bitsFrom}
-use Rattle.writer.proofs.Reading.{in-a-row}
-use Rattle.writer.proofs.Headers.{Sayable, reads-header}
+use Rattle.spelling.specs.Bits.{bitsFrom, put}
+use Rattle.spelling.specs.Header.{fieldsOf, headerBits, bunchBits}
+use Rattle.spelling.proofs.Lists.{length-bitsFrom}
+use Rattle.spelling.proofs.Reading.{in-a-row}
+use Rattle.spelling.proofs.Headers.{Sayable, reads-header}
 use Rattle.writer.proofs.Puts.{bits-put-are-there}
 
 -- at the window's cursor the header's fields are read, and after it stands the payload

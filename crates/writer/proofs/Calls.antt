@@ -10,8 +10,8 @@ use borrow.Author.Tests.{le-ltb, lt-ltb, ltb-false}
 use Rattle.window.specs.Refusals.{beyond, payloadTooLong, payloadShort, unwritable, noRoom}
 use Rattle.window.specs.Parse.{value}
 use Rattle.types.specs.declared.RawBunchHeader.{RawBunchHeader}
-use Rattle.writer.specs.Bits.{put}
-use Rattle.writer.specs.Header.{bunchBits, writable}
+use Rattle.spelling.specs.Bits.{put}
+use Rattle.spelling.specs.Header.{bunchBits, writable}
 use Rattle.writer.specs.Answers.{roomOf, bitsWith, refuses, added, writeBunch, closePacket}
 
 module _ (h : RawBunchHeader) (payload : List ℕ) (count : ℕ) (p : List ℕ) (at : ℕ) where

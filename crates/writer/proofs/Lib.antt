@@ -1,15 +1,8 @@
-pub mod Lists
-pub mod Spelling
-pub mod Packing
 pub mod Pushing
 pub mod Appending
 pub mod Calls
-pub mod Reading
-pub mod Numbers
-pub mod Headers
 pub mod OneBit
 pub mod Puts
-pub mod Allowed
 pub mod Bunches
 pub mod Accepted
 pub mod Determined

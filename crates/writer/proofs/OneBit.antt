@@ -13,7 +13,7 @@ use mir.Val.{boolByte}
 use borrow.Author.Tests.{ltb-true, ltb-false, eqb-true, eqb-false}
 use Rattle.bits.specs.Bits.{bitAt}
 use Rattle.bits.proofs.Numbers.{cut}
-use Rattle.writer.specs.Bits.{putBit}
+use Rattle.spelling.specs.Bits.{putBit}
 
 -- a byte's bits, where its bit a is put: those below it, it, and those above
 module _ (x y a : ℕ) where

@@ -15,8 +15,8 @@ use Rattle.bits.specs.Bits.{bitsAt}
 use Rattle.bits.specs.Words.{Peeked, stored}
 use Rattle.bits.proofs.Loads.{peeked-low}
 use Rattle.bits.proofs.Numbers.{bits-lt, bits-front}
-use Rattle.writer.specs.Bits.{bitsOf, bitsFrom, putBit, put}
-use Rattle.writer.proofs.Lists.{length-bitsFrom, from-append, of-at, put-append}
+use Rattle.spelling.specs.Bits.{bitsOf, bitsFrom, putBit, put}
+use Rattle.spelling.proofs.Lists.{length-bitsFrom, from-append, of-at, put-append}
 
 bit : (y : ℕ) → y < 2 → boolByte (eqb y 1) ≡ y
 bit zero h = refl

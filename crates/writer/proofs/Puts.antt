@@ -8,7 +8,7 @@ use lib.Dec.{eqb}
 use lib.ListN.{length, getD}
 use mir.Val.{boolByte}
 use Rattle.bits.specs.Bits.{bitAt}
-use Rattle.writer.specs.Bits.{bitsFrom, putBit, put}
+use Rattle.spelling.specs.Bits.{bitsFrom, putBit, put}
 use Rattle.writer.proofs.OneBit.{other-bytes, length-one, one-before, one-there, one-spare}
 
 -- "Bits before the cursor … stay"

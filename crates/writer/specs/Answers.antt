@@ -9,8 +9,8 @@ use Rattle.window.specs.Parse.{Result, value, refusal}
 use Rattle.types.specs.declared.RawBunchHeader.{RawBunchHeader}
 use Rattle.writer.specs.declared.WriteError.{WriteError}
 use Rattle.writer.specs.declared.Written.{Written}
-use Rattle.writer.specs.Bits.{put}
-use Rattle.writer.specs.Header.{bunchBits, writable}
+use Rattle.spelling.specs.Bits.{put}
+use Rattle.spelling.specs.Header.{bunchBits, writable}
 
 -- the paper's number and values for each case
 abbrev pub writePaper : WriteError → Refusal

@@ -1,4 +1,1 @@
-pub mod Bits
-pub mod Header
 pub mod Answers
-pub mod Words

@@ -3,11 +3,11 @@ ghost use mathlib.Core.Path.{_≡_};
 ghost use Rattle.writer.specs.Answers.{replied, writeBunch, closePacket};
 use crate::WriteError;
 use crate::Written;
-use crate::inner::Bits;
 use crate::inner::append;
-use crate::inner::fields;
 use crate::inner::push;
 use crate::inner::room;
+use spelling::inner::Bits;
+use spelling::inner::fields;
 use types::RawBunchHeader;
 use window::PacketBit;
 

@@ -3,17 +3,17 @@ ghost use mathlib.Core.Path.{_≡_};
 ghost use mathlib.Core.List.{_++_};
 ghost use Prim.Native.Nat.{_+_, _*_, _≤_, _<_};
 ghost use lib.ListN.{length};
-ghost use Rattle.writer.specs.Bits.{bitsFrom, put};
-ghost use Rattle.writer.specs.Header.{headerBits};
-ghost use Rattle.writer.specs.Words.{spelt, Piece};
+ghost use Rattle.spelling.specs.Bits.{bitsFrom, put};
+ghost use Rattle.spelling.specs.Header.{headerBits};
+ghost use Rattle.spelling.specs.Words.{spelt, Piece};
 ghost use Rattle.writer.specs.Answers.{replied, added};
 use crate::WriteError;
 use crate::Written;
-use crate::inner::Bits;
 use crate::inner::push;
 use crate::inner::room;
-use crate::inner::words;
 use header::BunchFields;
+use spelling::inner::Bits;
+use spelling::inner::words;
 use window::PacketBit;
 
 // The header's two words, as one where they fit into it.

@@ -2,10 +2,10 @@
 ghost use mathlib.Core.Path.{_≡_};
 ghost use Prim.Native.Nat.{_+_, _*_, _%_, _≤_, _<_, _^_, min};
 ghost use lib.ListN.{length};
-ghost use Rattle.writer.specs.Bits.{bitsFrom, put};
-ghost use Rattle.writer.specs.Words.{spelt, Whole};
-use crate::inner::Bits;
+ghost use Rattle.spelling.specs.Bits.{bitsFrom, put};
+ghost use Rattle.spelling.specs.Words.{spelt, Whole};
 use bits::inner::words;
+use spelling::inner::Bits;
 use window::inner::copy;
 
 // The n lowest bits of a word.

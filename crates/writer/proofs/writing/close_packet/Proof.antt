@@ -8,7 +8,7 @@ use lib.ListN.{length}
 use borrow.Author.Tests.{ltb-true}
 use Rattle.window.specs.Refusals.{noRoom}
 use Rattle.window.specs.Parse.{value}
-use Rattle.writer.specs.Bits.{bitsOf}
+use Rattle.spelling.specs.Bits.{bitsOf}
 use Rattle.writer.specs.Answers.{refuses}
 use Rattle.writer.proofs.Calls.{close-five, close-adds, seventeen, puts, there}
 use borrow.Author.Needs.{needs}

@@ -4,7 +4,7 @@ use Prim.Native.Nat.{ℕ, _-_, _≤_}
 use native.Mathlib.Omega.{arith}
 use lib.ListN.{length}
 use borrow.Author.Needs.{needs}
-use Rattle.writer.specs.Bits.{bitsFrom, put}
+use Rattle.spelling.specs.Bits.{bitsFrom, put}
 use Rattle.writer.proofs.Pushing.{put-more}
 use Rattle.writer.proofs.inner.push.payload.Statement.{statement}
 use Rattle.writer.proofs.inner.push.payload.Tie as tie

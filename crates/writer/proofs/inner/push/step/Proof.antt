@@ -3,7 +3,7 @@ use mathlib.Core.Path.{ap, _∙_}
 use Prim.Native.Nat.{_-_, _%_}
 use native.Mathlib.Omega.{arith}
 use borrow.Author.Needs.{needs}
-use Rattle.writer.specs.Bits.{put}
+use Rattle.spelling.specs.Bits.{put}
 use Rattle.writer.proofs.Pushing.{word-pushed, peeked-bits, word-bits}
 use Rattle.writer.proofs.inner.push.step.Statement.{statement}
 use Rattle.writer.proofs.inner.push.step.Tie as tie

@@ -1,0 +1,2 @@
+// The bits of a bunch header as words by value: what the writer puts into a packet.
+pub mod inner;
