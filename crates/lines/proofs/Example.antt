@@ -5,7 +5,7 @@ use mathlib.Core.List.{[], _∷_}
 use Prim.Native.Nat.{ℕ}
 use lib.IntN.{ℤ, pos, negsuc}
 use Rattle.lines.specs.declared.BunchLine.{BunchLine}
-use Rattle.lines.specs.Decimal.{digitsFrom, decimal, decimalSigned}
+use Rattle.digits.specs.Decimal.{digitsFrom, decimal, decimalSigned}
 use Rattle.lines.specs.Lines.{bunchLine, packetLine, versionLine, cutLine}
 
 -- a bunch whose flags are all alike

@@ -1,6 +1,2 @@
-pub mod Texts
-pub mod Digits
-pub mod Back
-pub mod Signs
-pub mod Values
+pub mod Calls
 pub mod Example

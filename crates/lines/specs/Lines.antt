@@ -3,12 +3,13 @@ use Prim.Native.Nat.{ℕ, _+_}
 use mathlib.Core.Bool.{Bool, cond}
 use mathlib.Core.List.{List, [], _∷_, _++_}
 use lib.Dec.{leb}
-use lib.ListN.{length, set}
+use lib.ListN.{length}
 use Rattle.lines.specs.declared.BunchLine.{BunchLine}
 use Rattle.lines.specs.declared.PacketLine.{PacketLine}
 use Rattle.lines.specs.declared.Text.{Text}
 use Rattle.lines.specs.declared.Line.{Line}
-use Rattle.lines.specs.Decimal.{decimal, decimalSigned}
+use Rattle.digits.specs.Decimal.{decimal, decimalSigned}
+use Rattle.digits.specs.Texts.{written}
 
 -- "single spaces, a newline after each line"
 abbrev pub fields : List (List ℕ) → List ℕ
@@ -73,11 +74,6 @@ textOf (Text.Bunch b) = bunchLine b
 textOf (Text.Packet p) = packetLine p
 textOf (Text.Version b) = versionLine b
 textOf (Text.Cut i) = cutLine i
-
--- a text's bytes one after another from a place on, and all other bytes as they were
-unfoldable pub written : List ℕ → ℕ → List ℕ → List ℕ
-written out at [] = out
-written out at (b ∷ text) = written (set out at b) (at + 1) text
 
 -- No line is longer: what the contracts of `inner` show.
 abbrev pub lineRoom : ℕ

@@ -14,7 +14,7 @@ use Rattle.sequences.specs.Sequences.{following, reliably, unreliable, numbered
 use Rattle.channels.specs.Partials.{continues, judged, tracking}
 use Rattle.reading.specs.Packet.{dataBits, whole, nextBunch}
 use Rattle.log.specs.Log.{versionOf, entryAt, logFrom}
-use Rattle.lines.specs.Decimal.{digitsFrom, decimal, decimalSigned}
+use Rattle.digits.specs.Decimal.{digitsFrom, decimal, decimalSigned}
 use Rattle.lines.specs.Lines.{bunchLine, packetLine}
 use Rattle.telling.specs.Listed.{listedFrom}
 use Rattle.listing.specs.Listing.{listing}

@@ -17,9 +17,10 @@ use Rattle.reading.specs.Memory.{Memory, channelsOf, laidIn}
 use Rattle.reading.specs.State.{State}
 use Rattle.reading.specs.Answers.{Reply, bunchAnswer, ofRead, reply}
 use Rattle.channels.proofs.Kept.{sequences-back, partials-back}
-use Rattle.lines.specs.Lines.{written, lineRoom}
-use Rattle.lines.specs.Puts.{Put}
-use Rattle.lines.proofs.Texts.{written-append}
+use Rattle.digits.specs.Texts.{written}
+use Rattle.lines.specs.Lines.{lineRoom}
+use Rattle.digits.specs.Puts.{Put}
+use Rattle.digits.proofs.Texts.{written-append}
 use Rattle.telling.specs.declared.inner.Sums.{Sums}
 use Rattle.telling.specs.Listed.{textOf, goesOn, sums, raised, raisedBy, Listed, after, closing, closed, readAt, listedFrom, listed}
 use Rattle.telling.specs.Turns.{answerText, answerGoesOn, Few, packetRoom, Tells}

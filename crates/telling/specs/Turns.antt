@@ -7,7 +7,8 @@ use lib.ListN.{length}
 use Rattle.reading.specs.declared.Bunch.{Bunch}
 use Rattle.reading.specs.Memory.{Memory, channelsOf}
 use Rattle.reading.specs.State.{State}
-use Rattle.lines.specs.Lines.{bunchLine, written}
+use Rattle.digits.specs.Texts.{written}
+use Rattle.lines.specs.Lines.{bunchLine}
 use Rattle.telling.specs.declared.inner.Sums.{Sums}
 use Rattle.telling.specs.declared.inner.Told.{Told}
 use Rattle.telling.specs.Listed.{Listed, lineOf}

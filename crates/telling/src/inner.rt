@@ -6,7 +6,7 @@ ghost use lib.ListN.{length};
 ghost use Rattle.reading.specs.Memory.{memory, channelsOf};
 ghost use Rattle.reading.specs.State.{State};
 ghost use Rattle.lines.specs.Lines.{lineRoom};
-ghost use Rattle.lines.specs.Puts.{Put};
+ghost use Rattle.digits.specs.Puts.{Put};
 ghost use Rattle.telling.specs.Listed.{lineOf, raised, closing, listed};
 ghost use Rattle.telling.specs.Turns.{answerText, answerGoesOn, Few, PacketRoom, Tells};
 use bits::inner::signed;

@@ -1,7 +1,7 @@
 -- The fields in a row; id and sequence are the struct's numbers.
 use mir.Syntax.{w32}
 use mir.ValLaws.{toZ-ofZ}
-use Rattle.lines.proofs.Texts.{then}
+use Rattle.digits.proofs.Texts.{then}
 use borrow.Author.Needs.{needs}
 use Rattle.lines.proofs.inner.bunch_names.Statement.{statement}
 use Rattle.lines.proofs.inner.bunch_names.Tie as tie

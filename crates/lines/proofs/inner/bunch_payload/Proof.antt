@@ -1,5 +1,5 @@
 -- The fields in a row.
-use Rattle.lines.proofs.Texts.{then}
+use Rattle.digits.proofs.Texts.{then}
 use borrow.Author.Needs.{needs}
 use Rattle.lines.proofs.inner.bunch_payload.Statement.{statement}
 use Rattle.lines.proofs.inner.bunch_payload.Tie as tie

@@ -1,5 +1,5 @@
 -- A space and four marks.
-use Rattle.lines.proofs.Texts.{then}
+use Rattle.digits.proofs.Texts.{then}
 use borrow.Author.Needs.{needs}
 use Rattle.lines.proofs.inner.flag_field.Statement.{statement}
 use Rattle.lines.proofs.inner.flag_field.Tie as tie

@@ -1,6 +1,6 @@
 -- Two bytes in a row.
 use borrow.Author.Needs.{needs}
-use Rattle.lines.proofs.Texts.{then}
+use Rattle.digits.proofs.Texts.{then}
 use Rattle.lines.proofs.inner.letter.Statement.{statement}
 use Rattle.lines.proofs.inner.letter.Tie as tie
 

@@ -2,7 +2,7 @@
 use mir.Syntax.{w32}
 use mir.ValLaws.{toZ-ofZ}
 use Rattle.lines.specs.Lines.{packetLine}
-use Rattle.lines.proofs.Texts.{then}
+use Rattle.digits.proofs.Texts.{then}
 use borrow.Author.Needs.{needs}
 use Rattle.lines.proofs.inner.packet_line.Statement.{statement}
 use Rattle.lines.proofs.inner.packet_line.Tie as tie

@@ -1,5 +1,5 @@
 -- A letter, a number and a newline.
-use Rattle.lines.proofs.Texts.{then}
+use Rattle.digits.proofs.Texts.{then}
 use borrow.Author.Needs.{needs}
 use Rattle.lines.proofs.inner.short_line.Statement.{statement}
 use Rattle.lines.proofs.inner.short_line.Tie as tie

@@ -1,6 +1,6 @@
 -- Each kind's line, by its own contract.
 use native.Mathlib.Omega.{arith}
-use Rattle.lines.proofs.Texts.{at-most}
+use Rattle.digits.proofs.Texts.{at-most}
 use borrow.Author.Needs.{needs}
 use Rattle.lines.proofs.inner.write.Statement.{statement}
 use Rattle.lines.proofs.inner.write.Tie as tie

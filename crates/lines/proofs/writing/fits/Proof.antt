@@ -3,7 +3,7 @@ use mathlib.Core.Path.{sym}
 use Prim.Native.Nat.{_+_}
 use native.Mathlib.Omega.{arith}
 use borrow.Author.Tests.{lt-leb}
-use Rattle.lines.proofs.Texts.{moved}
+use Rattle.lines.proofs.Calls.{moved}
 use Rattle.lines.proofs.writing.fits.Statement.{statement}
 use Rattle.lines.proofs.writing.fits.Tie as tie
 

@@ -4,7 +4,7 @@ use borrow.Author.Tests.{leb-true}
 use Prim.Native.Nat.{_+_}
 use lib.ListN.{length}
 use Rattle.lines.specs.Lines.{textOf}
-use Rattle.lines.proofs.Texts.{with-room, no-room}
+use Rattle.lines.proofs.Calls.{with-room, no-room}
 use borrow.Author.Needs.{needs}
 use Rattle.lines.proofs.writing.write.Statement.{statement}
 use Rattle.lines.proofs.writing.write.Tie as tie

@@ -8,7 +8,7 @@ use native.Mathlib.Numerals.{unary-clauses}
 use borrow.Author.Tests.{eq-eqb, ne-eqb, eqb-false}
 use lib.Dec.{eqb}
 use lib.ListN.{length, length-append}
-use Rattle.lines.specs.Decimal.{lastDigit, digitsFrom, digits, decimal}
+use Rattle.digits.specs.Decimal.{lastDigit, digitsFrom, digits, decimal}
 
 pub no-digits : (n : ℕ) → n ≤ 0 → digits n ≡ []
 unfolding digitsFrom

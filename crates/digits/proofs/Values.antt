@@ -5,8 +5,8 @@ use Prim.Native.Nat.{ℕ, zero, suc, _+_, _*_, _-_, _/_, _≤_, _<_}
 use native.Mathlib.Omega.{arith}
 use lib.ListN.{length, getD, length-append, List·getD-append}
 use native.Mathlib.Decide.{decLe}
-use Rattle.lines.specs.Decimal.{lastDigit, digits, decimal}
-use Rattle.lines.proofs.Digits.{no-digits, one-more, count-more, count-all}
+use Rattle.digits.specs.Decimal.{lastDigit, digits, decimal}
+use Rattle.digits.proofs.Digits.{no-digits, one-more, count-more, count-all}
 
 -- the number that digits spell after others
 abbrev pub spelled : ℕ → List ℕ → ℕ

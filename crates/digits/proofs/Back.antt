@@ -4,10 +4,10 @@ use mathlib.Core.List.{List}
 use Prim.Native.Nat.{ℕ, _+_, _-_, _/_, _≤_, _<_}
 use native.Mathlib.Omega.{arith}
 use lib.ListN.{length, set, length-set}
-use Rattle.lines.specs.Decimal.{lastDigit, digits, decimal}
-use Rattle.lines.specs.Lines.{written}
-use Rattle.lines.proofs.Digits.{no-digits, one-more, count-more, count-all}
-use Rattle.lines.proofs.Texts.{written-last}
+use Rattle.digits.specs.Decimal.{lastDigit, digits, decimal}
+use Rattle.digits.specs.Texts.{written}
+use Rattle.digits.proofs.Digits.{no-digits, one-more, count-more, count-all}
+use Rattle.digits.proofs.Texts.{written-last}
 
 pub record Back (out₀ : List ℕ) (at rest₀ : ℕ) (out : List ℕ) (place rest : ℕ) : Type 0 where
   pub placed : place ≡ at + length (digits rest)

@@ -6,7 +6,7 @@ use native.Mathlib.Omega.{arith}
 use lib.IntN.{ℤ, pos, negsuc}
 use mir.Syntax.{w32}
 use mir.Val.{SFits, ofZ}
-use Rattle.lines.specs.Decimal.{decimal, decimalSigned}
+use Rattle.digits.specs.Decimal.{decimal, decimalSigned}
 
 pub not-below : (x : ℤ) → SFits w32 x → {w : ℕ} → w ≡ ofZ w32 x → w < 2147483648 → decimalSigned x ≡ decimal w
 unfolding decimalSigned

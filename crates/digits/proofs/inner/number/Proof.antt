@@ -1,10 +1,10 @@
 -- A space and the digits: 20 at most.
 use native.Mathlib.Omega.{arith}
-use Rattle.lines.proofs.Digits.{short}
-use Rattle.lines.proofs.Texts.{then, at-most}
+use Rattle.digits.proofs.Digits.{short}
+use Rattle.digits.proofs.Texts.{then, at-most}
 use borrow.Author.Needs.{needs}
-use Rattle.lines.proofs.inner.number.Statement.{statement}
-use Rattle.lines.proofs.inner.number.Tie as tie
+use Rattle.digits.proofs.inner.number.Statement.{statement}
+use Rattle.digits.proofs.inner.number.Tie as tie
 
 digits-requires : tie.Need-digits-requires
 digits-requires c κs = omega (arith, short 19 (c .before .before .before .before .before .before .args .n) (omega (arith, c .before .before .before .before .before .before .fits .n .fits)))

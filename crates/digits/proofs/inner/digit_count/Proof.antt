@@ -3,10 +3,10 @@ use mathlib.Core.Path.{_≡_}
 use Prim.Native.Nat.{_+_}
 use native.Mathlib.Omega.{arith}
 use lib.ListN.{length}
-use Rattle.lines.specs.Decimal.{digits, decimal}
-use Rattle.lines.proofs.Digits.{count-more, count-all, none-of-zero, short}
-use Rattle.lines.proofs.inner.digit_count.Statement.{statement}
-use Rattle.lines.proofs.inner.digit_count.Tie as tie
+use Rattle.digits.specs.Decimal.{digits, decimal}
+use Rattle.digits.proofs.Digits.{count-more, count-all, none-of-zero, short}
+use Rattle.digits.proofs.inner.digit_count.Statement.{statement}
+use Rattle.digits.proofs.inner.digit_count.Tie as tie
 
 abbrev Inv-loop : tie.InvT-loop
 Inv-loop n rest₀ count₀ rest count = count + length (digits rest) ≡ length (decimal n)

@@ -4,12 +4,12 @@ use Prim.Native.Nat.{ℕ, _+_, _-_, _/_}
 use native.Mathlib.Omega.{arith}
 use lib.ListN.{set, length-set}
 use borrow.Author.Needs.{needs}
-use Rattle.lines.specs.Decimal.{digits}
-use Rattle.lines.specs.Lines.{written}
-use Rattle.lines.proofs.Digits.{count-more, count-all}
-use Rattle.lines.proofs.Back.{Back, begins, goes-back, stops, all-digits}
-use Rattle.lines.proofs.inner.digits.Statement.{statement}
-use Rattle.lines.proofs.inner.digits.Tie as tie
+use Rattle.digits.specs.Decimal.{digits}
+use Rattle.digits.specs.Texts.{written}
+use Rattle.digits.proofs.Digits.{count-more, count-all}
+use Rattle.digits.proofs.Back.{Back, begins, goes-back, stops, all-digits}
+use Rattle.digits.proofs.inner.digits.Statement.{statement}
+use Rattle.digits.proofs.inner.digits.Tie as tie
 
 abbrev Inv-loop : tie.InvT-loop
 Inv-loop out₀ at n end place₀ rest₀ out place rest = Back out₀ at rest₀ out place rest

@@ -5,12 +5,12 @@ use mir.Syntax.{w32}
 use mir.Val.{ofZ}
 use mir.ValLaws.{toZ-ofZ}
 use native.Mathlib.Omega.{arith}
-use Rattle.lines.proofs.Digits.{short}
-use Rattle.lines.proofs.Texts.{then, at-most}
-use Rattle.lines.proofs.Signs.{not-below, below}
+use Rattle.digits.proofs.Digits.{short}
+use Rattle.digits.proofs.Texts.{then, at-most}
+use Rattle.digits.proofs.Signs.{not-below, below}
 use borrow.Author.Needs.{needs}
-use Rattle.lines.proofs.inner.signed_number.Statement.{statement}
-use Rattle.lines.proofs.inner.signed_number.Tie as tie
+use Rattle.digits.proofs.inner.signed_number.Statement.{statement}
+use Rattle.digits.proofs.inner.signed_number.Tie as tie
 
 digits-requires : tie.Need-digits-requires
 digits-requires c κs = omega (arith, short 9 (c .before .before .before .before .before .before .to-word .result) (omega arith))

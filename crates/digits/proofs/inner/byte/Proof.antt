@@ -1,8 +1,8 @@
 -- One store.
 use borrow.Author.Needs.{needs}
-use Rattle.lines.proofs.Texts.{one-byte}
-use Rattle.lines.proofs.inner.byte.Statement.{statement}
-use Rattle.lines.proofs.inner.byte.Tie as tie
+use Rattle.digits.proofs.Texts.{one-byte}
+use Rattle.digits.proofs.inner.byte.Statement.{statement}
+use Rattle.digits.proofs.inner.byte.Tie as tie
 
 returns : tie.Need-returns
 returns c = one-byte (c .args .out .now) (c .args .at) (c .args .value)

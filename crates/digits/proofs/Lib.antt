@@ -1,0 +1,5 @@
+pub mod Texts
+pub mod Digits
+pub mod Back
+pub mod Signs
+pub mod Values
