@@ -1,7 +1,7 @@
 -- A walk's answer as eight words: the seven of its stop, then how many records it wrote, also where it refuses.
 use Prim.Native.Nat.{ℕ}
 use mathlib.Core.List.{List, [], _∷_, _++_}
-use Rattle.field.specs.Walks.{Stop, ended, tail, abandoned, Walked}
+use Rattle.walking.specs.Walks.{Stop, ended, tail, abandoned, Walked}
 use Rattle.answers.specs.Words.{words}
 
 -- which stop, and its bits

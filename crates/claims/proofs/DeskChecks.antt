@@ -7,8 +7,9 @@ use Rattle.window.specs.Parse.{_>>=_, _>>_, give, refuse, refuseIf, readIf, pla
 use Rattle.window.specs.Reads.{dataFits, windowFits, cursorFits, sound, need, taken, bits, packedFrom, packed, log2, serialized, readPacked, readSerialized}
 use Rattle.window.specs.Reads.{bit, readBit}
 use Rattle.reading.specs.Packet.{dataBits, nextBunch}
-use Rattle.field.specs.Records.{remaining, payload, counted, repLayout, call, classNetCache}
-use Rattle.field.specs.Walks.{walk, parseRepLayout, parseClassNetCache}
+use Rattle.walking.specs.Records.{remaining, payload, counted, repLayout, call, classNetCache}
+use Rattle.walking.specs.Walks.{walk}
+use Rattle.field.specs.Walks.{parseRepLayout, parseClassNetCache}
 use Rattle.claims.specs.DeskChecks.{deskChecks, Hold}
 
 pub desk-checks : Hold deskChecks

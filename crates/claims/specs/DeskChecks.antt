@@ -8,7 +8,8 @@ use Rattle.window.specs.Parse.{Answer, got, refused, Parse}
 use Rattle.window.specs.Reads.{readPacked, readSerialized}
 use Rattle.window.specs.Windows.{front}
 use Rattle.reading.specs.Packet.{Outcome, bunch, end, malformed, nextBunch}
-use Rattle.field.specs.Walks.{Stop, ended, tail, abandoned, Walked, parseRepLayout, parseClassNetCache}
+use Rattle.walking.specs.Walks.{Stop, ended, tail, abandoned, Walked}
+use Rattle.field.specs.Walks.{parseRepLayout, parseClassNetCache}
 
 -- values and how many bits were read, after a 0; or the refusal's number, what it returns, and where the reader then stands
 abbrev pub told : {A : Type 0} → (A → List ℕ) → Answer A → List ℕ

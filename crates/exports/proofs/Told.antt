@@ -2,9 +2,9 @@
 use Prim.Native.Nat.{ℕ}
 use mathlib.Core.Path.{_≡_, ap, _∙_}
 use mathlib.Core.List.{List}
-use Rattle.field.specs.declared.Walk.{Walk}
-use Rattle.field.specs.Walks.{Walked}
-use Rattle.field.specs.Answers.{ofWalk}
+use Rattle.walking.specs.declared.Walk.{Walk}
+use Rattle.walking.specs.Walks.{Walked}
+use Rattle.walking.specs.Answers.{ofWalk}
 use Rattle.answers.specs.Walks.{walkWords}
 
 pub told : (x : Walk) {places : List (List ℕ)} {m : Walked} {r : List ℕ} → ofWalk x places ≡ m → r ≡ walkWords (ofWalk x places) → (r ≡ walkWords m) × (places ≡ m .places)

@@ -6,8 +6,8 @@ ghost use Rattle.answers.specs.Words.{windowAt};
 ghost use Rattle.answers.specs.Walks.{walkWords};
 use answers::words;
 use answers::words::WalkWords;
-use field::Record;
 use field::walks;
+use walking::Record;
 
 #[no_mangle]
 pub extern "C" fn gritwheel_parse_rep_layout(

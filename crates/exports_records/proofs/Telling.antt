@@ -4,9 +4,9 @@ use mathlib.Core.Path.{_≡_, ap, _∙_}
 use mathlib.Core.List.{List}
 use lib.ListN.{length}
 use Rattle.window.specs.declared.Window.{Window}
-use Rattle.field.specs.declared.Walk.{Walk}
-use Rattle.field.specs.Walks.{Walked}
-use Rattle.field.specs.Answers.{ofWalk}
+use Rattle.walking.specs.declared.Walk.{Walk}
+use Rattle.walking.specs.Walks.{Walked}
+use Rattle.walking.specs.Answers.{ofWalk}
 use Rattle.answers.specs.Walks.{walkWords}
 use Rattle.records.specs.declared.FieldRecord.{FieldRecord}
 use Rattle.records.specs.declared.Stream.{Stream}

@@ -2,7 +2,7 @@
 use Prim.Native.Nat.{ℕ, zero, suc}
 use mathlib.Core.Path.{_≡_}
 use mathlib.Core.List.{List}
-use Rattle.field.specs.Walks.{Walked}
+use Rattle.walking.specs.Walks.{Walked}
 use Rattle.answers.specs.Walks.{walkWords}
 use Rattle.records.specs.declared.FieldRecord.{FieldRecord}
 use Rattle.records.specs.declared.Stream.{Stream}

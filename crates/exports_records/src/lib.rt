@@ -5,10 +5,10 @@ ghost use Rattle.records.specs.Walks.{walkedInto, listed};
 ghost use Rattle.exports_records.specs.Told.{streamOf, Told, Tells};
 use answers::words;
 use answers::words::WalkWords;
-use field::Record;
 use records::FieldRecord;
 use records::Stream;
 use records::inner;
+use walking::Record;
 
 fn stream_of(stream: u32, function_count: u32) -> Stream
     ensures { λ r. ⌜ r ≡ streamOf stream «function_count» ⌝ }

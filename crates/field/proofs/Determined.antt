@@ -10,11 +10,11 @@ use Rattle.window.specs.declared.BitError.the-variants.{Eof, MalformedIntPacked
 use Rattle.window.specs.Refusals.{Refusal, paper, tooFewBits, endless, tooLarge, zeroMaximum, beyond, tooWide, tooLong, listFull, unresolved}
 use Rattle.window.specs.Parse.{Answer, got, refused}
 use Rattle.bitio.proofs.Determined.{placeAt, unpaper, unpaper-paper}
-use Rattle.field.specs.declared.FieldError.{FieldError}
-use Rattle.field.specs.declared.Stop.{Stop}
-use Rattle.field.specs.declared.Walk.{Walk}
-use Rattle.field.specs.Walks as W
-use Rattle.field.specs.Answers.{fieldPaper, stopAnswer, ofWalk}
+use Rattle.walking.specs.declared.FieldError.{FieldError}
+use Rattle.walking.specs.declared.Stop.{Stop}
+use Rattle.walking.specs.declared.Walk.{Walk}
+use Rattle.walking.specs.Walks as W
+use Rattle.walking.specs.Answers.{fieldPaper, stopAnswer, ofWalk}
 
 -- a refusal by its number and what it returns
 unfield : Refusal → FieldError

@@ -12,8 +12,9 @@ use Rattle.window.specs.Reads.{sound, bit, readBit}
 use Rattle.window.specs.Sound.{Sound}
 use Rattle.bitio.proofs.Tests.{passes}
 use Rattle.window.proofs.Keeps.{sound-stays, Keeps, keeps-then, keeps-give, keeps-bits}
-use Rattle.field.specs.Records.{repLayout, classNetCache}
-use Rattle.field.specs.Walks.{stopped, walked, settle, parseRepLayout, parseClassNetCache}
+use Rattle.walking.specs.Records.{repLayout, classNetCache}
+use Rattle.walking.specs.Walks.{stopped, walked}
+use Rattle.field.specs.Walks.{settle, parseRepLayout, parseClassNetCache}
 
 keeps-bit : Keeps bit
 unfolding bit

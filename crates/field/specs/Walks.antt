@@ -1,55 +1,14 @@
--- A walk: records one after another into a lent list, a place for each, up to where it stops.
-use Prim.Native.Nat.{ℕ, zero, suc}
+-- The two public walks: what comes before the records, and what is left after their end.
+use Prim.Native.Nat.{ℕ}
 use mathlib.Core.Bool.{Bool, true, false}
-use mathlib.Core.List.{List, [], _∷_}
+use mathlib.Core.List.{List}
 use lib.Dec.{eqb, leb}
 use Rattle.window.specs.declared.Window.{Window}
-use Rattle.window.specs.Refusals.{placeOf, listFull, unresolved}
-use Rattle.window.specs.Parse.{Answer, got, refused, Parse, _>>_, refuseIf}
+use Rattle.window.specs.Refusals.{unresolved}
+use Rattle.window.specs.Parse.{Answer, got, refused, _>>_, refuseIf}
 use Rattle.window.specs.Reads.{sound, readBit}
-use Rattle.field.specs.Records.{Found, Looked, ends, abandons, finds, bitsLeft, repLayout, classNetCache}
-
--- at the end with nothing left, at the end with so many bits of the class net cache left, or with so many abandoned
-pub data Stop : Type 0 where
-  ended : Stop
-  tail : ℕ → Stop
-  abandoned : ℕ → Stop
-
--- what the list holds, how many records were written, and where the walk stopped or what it refused
-pub record Walked : Type 0 where
-  pub places : List (List ℕ)
-  pub count : ℕ
-  pub answer : Answer Stop
-
--- "handle, bit count and its payload's start, counted both ways"
-abbrev pub numbers : Found → List ℕ
-numbers r = r .handle ∷ r .bits ∷ r .inWindow ∷ r .inPacket ∷ []
-
-abbrev pub atEnd : Window → Window
-atEnd w = record { start = w .start; position = record { 0 = w .length }; length = w .length }
-
-abbrev pub stopped : List (List ℕ) → Answer Stop → Walked
-stopped ps a = record { places = ps; count = 0; answer = a }
-
-abbrev pub after : List ℕ → Walked → Walked
-after n x = record { places = n ∷ x .places; count = suc (x .count); answer = x .answer }
-
--- A record goes to the first place, and the walk goes on with the others. "14 is given exactly when a complete further record
--- finds no place." "abandons from the record's start"
-abbrev pub onward : List (List ℕ) → Window → Answer Looked → (List (List ℕ) → Window → Walked) → Walked
-onward ps w (refused e u) on = stopped ps (refused e u)
-onward ps w (got ends u) on = stopped ps (got ended u)
-onward ps w (got abandons u) on = stopped ps (got (abandoned (bitsLeft w)) (atEnd u))
-onward [] w (got (finds r) u) on = stopped [] (refused (listFull (placeOf w)) w)
-onward (p ∷ ps) w (got (finds r) u) on = after (numbers r) (on ps u)
-
--- The second argument only bounds the recursion: each record reads at least eight bits.
-unfoldable pub walk : Parse Looked → ℕ → List ℕ → List (List ℕ) → Window → Walked
-walk look zero d ps w = stopped ps (got ended w)
-walk look (suc n) d ps w = onward ps w (look d w) (walk look n d)
-
-abbrev pub walked : Parse Looked → List ℕ → List (List ℕ) → Window → Walked
-walked look d ps w = walk look (suc (bitsLeft w)) d ps w
+use Rattle.walking.specs.Records.{bitsLeft, repLayout, classNetCache}
+use Rattle.walking.specs.Walks.{Stop, ended, tail, abandoned, Walked, atEnd, stopped, walked}
 
 -- what comes before the records; a refusal there leaves the list as it was
 abbrev pub from : {A : Type 0} → List (List ℕ) → Answer A → (Window → Walked) → Walked

@@ -2,7 +2,7 @@
 use Prim.Native.Nat.{ℕ}
 use mathlib.Core.Path.{_≡_, ap}
 use mathlib.Core.List.{List}
-use Rattle.field.specs.declared.Walk.{Walk}
+use Rattle.walking.specs.declared.Walk.{Walk}
 use Rattle.field.proofs.Determined.{walk-determined, places-determined}
 use Rattle.records.specs.declared.FieldRecord.{FieldRecord}
 use Rattle.records.specs.Walks.{Listed, ofLists}

@@ -6,9 +6,9 @@ use native.Mathlib.Omega.{arith}
 use lib.ListN.{length, getD, set, take, drop, length-append, length-drop, length-map}
 use lib.Seq.{length-take-le, take-suc, drop-cons, set-at, append-snoc}
 use Rattle.window.specs.declared.Window.{Window}
-use Rattle.field.specs.declared.Walk.{Walk}
-use Rattle.field.specs.Walks.{Walked}
-use Rattle.field.specs.Answers.{ofWalk}
+use Rattle.walking.specs.declared.Walk.{Walk}
+use Rattle.walking.specs.Walks.{Walked}
+use Rattle.walking.specs.Answers.{ofWalk}
 use Rattle.records.specs.declared.FieldRecord.{FieldRecord}
 use Rattle.records.specs.declared.Stream.{Stream}
 use Rattle.records.specs.Records.{recordOf, filled}

@@ -14,7 +14,7 @@ use Rattle.window.specs.Refusals.{Refusal, tooLarge}
 use Rattle.window.specs.Parse.{Answer, got, refused, Parse, andThen, _>>=_, _>>_, give, refuse, refuseIf, readIf}
 use Rattle.window.specs.Reads.{taken, bits, packedFrom, packed, log2, serialized}
 use Rattle.window.proofs.Rows.{not-refused}
-use Rattle.field.specs.Records.{Looked, ends, abandons, finds, payload, counted, repLayout, call, classNetCache}
+use Rattle.walking.specs.Records.{Looked, ends, abandons, finds, payload, counted, repLayout, call, classNetCache}
 
 pub record Gives {A : Type 0} (P : A → Type 0) (p : Parse A) : Type 0 where
   pub gives : (d : List ℕ) (w : Window) {a : A} {u : Window} → p d w ≡ got a u → P a

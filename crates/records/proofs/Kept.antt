@@ -12,10 +12,11 @@ use Rattle.window.specs.declared.Window.{Window}
 use Rattle.window.specs.Refusals.{unresolved}
 use Rattle.window.specs.Parse.{Answer, got, refused, Parse, _>>_, refuseIf}
 use Rattle.window.specs.Reads.{sound, readBit}
-use Rattle.field.specs.declared.Walk.{Walk}
-use Rattle.field.specs.Records.{Looked, bitsLeft, ends, abandons, finds, repLayout, classNetCache}
-use Rattle.field.specs.Walks.{Walked, numbers, onward, walk, walked, from, settle, parseRepLayout, parseClassNetCache}
-use Rattle.field.specs.Answers.{ofWalk}
+use Rattle.walking.specs.declared.Walk.{Walk}
+use Rattle.walking.specs.Records.{Looked, bitsLeft, ends, abandons, finds, repLayout, classNetCache}
+use Rattle.walking.specs.Walks.{Walked, numbers, onward, walk, walked}
+use Rattle.field.specs.Walks.{from, settle, parseRepLayout, parseClassNetCache}
+use Rattle.walking.specs.Answers.{ofWalk}
 use Rattle.records.specs.declared.Stream.{Stream}
 use Rattle.records.specs.Walks.{parse, walkedInto}
 use Rattle.records.specs.Fits.{Fits, Ready}

@@ -4,9 +4,10 @@ use mathlib.Core.Bool.{true, false}
 use mathlib.Core.List.{List, _++_}
 use lib.ListN.{length, take, drop}
 use Rattle.window.specs.declared.Window.{Window}
-use Rattle.field.specs.declared.Walk.{Walk}
-use Rattle.field.specs.Walks.{Walked, parseRepLayout, parseClassNetCache}
-use Rattle.field.specs.Answers.{ofWalk}
+use Rattle.walking.specs.declared.Walk.{Walk}
+use Rattle.walking.specs.Walks.{Walked}
+use Rattle.field.specs.Walks.{parseRepLayout, parseClassNetCache}
+use Rattle.walking.specs.Answers.{ofWalk}
 use Rattle.records.specs.declared.FieldRecord.{FieldRecord}
 use Rattle.records.specs.declared.Stream.{Stream}
 use Rattle.records.specs.Records.{filled}

@@ -5,8 +5,8 @@ ghost use Rattle.records.specs.Walks.{listed, ofLists};
 use crate::FieldRecord;
 use crate::Stream;
 use crate::inner;
-use field::Record;
-use field::Walk;
+use walking::Record;
+use walking::Walk;
 use window::Window;
 
 // The walk that the stream names.

@@ -3,7 +3,7 @@ use mathlib.Core.Path.{ap, sym, _∙_}
 use borrow.Author.Needs.{needs}
 use Rattle.window.specs.declared.Bit.{Bit}
 use Rattle.window.specs.Answers.{bitAnswer}
-use Rattle.field.specs.Records.{look}
+use Rattle.walking.specs.Records.{look}
 use Rattle.field.specs.Walks.{settle}
 use Rattle.field.proofs.Opens.{past-bit, layout-refused, layout-opened}
 use Rattle.field.proofs.walks.rep_layout.Statement.{statement}

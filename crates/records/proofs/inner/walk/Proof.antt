@@ -4,7 +4,7 @@ use mathlib.Core.Path.{_≡_}
 use mathlib.Core.List.{List}
 use borrow.Author.Needs.{needs}
 use Rattle.window.specs.declared.Window.{Window}
-use Rattle.field.specs.Walks.{Walked}
+use Rattle.walking.specs.Walks.{Walked}
 use Rattle.records.specs.declared.Stream.{Stream}
 use Rattle.records.specs.Walks.{parse}
 use Rattle.records.proofs.inner.walk.Statement.{statement}

@@ -12,7 +12,7 @@ use Rattle.window.specs.Answers.{u32Answer, ofU32}
 use Rattle.window.specs.Parse.{Answer, got, refused, _>>=_, give, readIf, advanced}
 use Rattle.window.specs.Reads.{packed, serialized}
 use Rattle.window.proofs.Rows.{then-refused}
-use Rattle.field.specs.Records.{ends, abandons, finds, remaining, payload, counted, repLayout, call, classNetCache}
+use Rattle.walking.specs.Records.{ends, abandons, finds, remaining, payload, counted, repLayout, call, classNetCache}
 
 -- a number's read, by the case that the match found
 module _ (r : U32Read) {x : Answer ℕ} (e : ofU32 r ≡ x) where

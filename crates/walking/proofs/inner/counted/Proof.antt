@@ -1,10 +1,10 @@
 -- Each way out is one law of Records, at what the count's read gave.
 use mathlib.Core.Path.{sym}
 use Rattle.window.proofs.Steps.{sound-past}
-use Rattle.field.proofs.Records.{told-value, told-refusal, counted-refused, overlong, whole}
+use Rattle.walking.proofs.Records.{told-value, told-refusal, counted-refused, overlong, whole}
 use borrow.Author.Needs.{needs}
-use Rattle.field.proofs.inner.counted.Statement.{statement}
-use Rattle.field.proofs.inner.counted.Tie as tie
+use Rattle.walking.proofs.inner.counted.Statement.{statement}
+use Rattle.walking.proofs.inner.counted.Tie as tie
 
 returns : tie.Need-returns
 returns c =

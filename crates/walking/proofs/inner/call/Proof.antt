@@ -1,9 +1,9 @@
 -- Each way out is one law of Records, at what the handle's read gave.
 use mathlib.Core.Path.{sym, _∙_}
-use Rattle.field.proofs.Records.{told-value, told-refusal, call-refused, call-abandons, call-goes-on}
+use Rattle.walking.proofs.Records.{told-value, told-refusal, call-refused, call-abandons, call-goes-on}
 use borrow.Author.Needs.{needs}
-use Rattle.field.proofs.inner.call.Statement.{statement}
-use Rattle.field.proofs.inner.call.Tie as tie
+use Rattle.walking.proofs.inner.call.Statement.{statement}
+use Rattle.walking.proofs.inner.call.Tie as tie
 
 returns : tie.Need-returns
 returns c =

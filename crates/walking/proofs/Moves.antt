@@ -12,8 +12,8 @@ use Rattle.window.specs.Parse.{Answer, got, refused, Parse, andThen, _>>=_, giv
 use Rattle.window.specs.Reads.{packed}
 use Rattle.window.proofs.Rows.{not-refused}
 use Rattle.window.proofs.Keeps.{Stays, stays, left, Keeps, keeps-packed, keeps-serialized, packed-reads}
-use Rattle.field.specs.declared.inner.Kind.{Kind}
-use Rattle.field.specs.Records.{Found, Looked, ends, abandons, finds, bitsLeft, remaining, payload, counted, repLayout, call, classNetCache, look}
+use Rattle.walking.specs.declared.inner.Kind.{Kind}
+use Rattle.walking.specs.Records.{Found, Looked, ends, abandons, finds, bitsLeft, remaining, payload, counted, repLayout, call, classNetCache, look}
 
 pub record On (n : ℕ) (w u : Window) : Type 0 where
   pub length : u .length ≡ w .length

@@ -6,9 +6,9 @@ use Rattle.window.specs.declared.Window.{Window}
 use Rattle.window.specs.Refusals.{paper}
 use Rattle.window.specs.Parse.{Answer, got, refused, Parse, _>>=_, readIf, advanced}
 use Rattle.window.specs.Reads.{packed, serialized}
-use Rattle.field.specs.declared.inner.Kind.{Kind}
-use Rattle.field.specs.declared.inner.Step.{Step}
-use Rattle.field.specs.declared.inner.StepRead.{StepRead}
+use Rattle.walking.specs.declared.inner.Kind.{Kind}
+use Rattle.walking.specs.declared.inner.Step.{Step}
+use Rattle.walking.specs.declared.inner.StepRead.{StepRead}
 
 -- "A record holds its handle, its bit count and its payload's start, counted both ways."
 pub record Found : Type 0 where

@@ -2,10 +2,10 @@
 use mathlib.Core.Path.{sym, ap, _∙_}
 use native.Mathlib.Omega.{arith}
 use borrow.Author.Needs.{needs}
-use Rattle.field.specs.Records.{call}
-use Rattle.field.proofs.Records.{calls-end, calls-go-on}
-use Rattle.field.proofs.inner.class_net_cache.Statement.{statement}
-use Rattle.field.proofs.inner.class_net_cache.Tie as tie
+use Rattle.walking.specs.Records.{call}
+use Rattle.walking.proofs.Records.{calls-end, calls-go-on}
+use Rattle.walking.proofs.inner.class_net_cache.Statement.{statement}
+use Rattle.walking.proofs.inner.class_net_cache.Tie as tie
 
 returns : tie.Need-returns
 returns c =

@@ -1,8 +1,8 @@
 -- 14 carries the place where the record starts.
 use mathlib.Core.Path.{refl}
 use borrow.Author.Needs.{needs}
-use Rattle.field.proofs.inner.full.Statement.{statement}
-use Rattle.field.proofs.inner.full.Tie as tie
+use Rattle.walking.proofs.inner.full.Statement.{statement}
+use Rattle.walking.proofs.inner.full.Tie as tie
 
 returns : tie.Need-returns
 returns c = (refl, rw (c .place-of .ensures))

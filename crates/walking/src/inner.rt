@@ -2,11 +2,11 @@
 ghost use mathlib.Core.Path.{_≡_};
 ghost use Prim.Native.Nat.{_≤_, _<_, max};
 ghost use Rattle.window.specs.Sound.{Sound};
-ghost use Rattle.field.specs.Records.{bitsLeft, counted, repLayout, call, classNetCache, look, ofStep};
+ghost use Rattle.walking.specs.Records.{bitsLeft, counted, repLayout, call, classNetCache, look, ofStep};
 ghost use Rattle.window.specs.Parse.{got, refused};
 ghost use Rattle.window.specs.Refusals.{placeOf, listFull};
-ghost use Rattle.field.specs.Walks.{abandoned, atEnd, walked};
-ghost use Rattle.field.specs.Answers.{stopAnswer, ofWalk};
+ghost use Rattle.walking.specs.Walks.{abandoned, atEnd, walked};
+ghost use Rattle.walking.specs.Answers.{stopAnswer, ofWalk};
 use crate::FieldError;
 use crate::Record;
 use crate::Stop;

@@ -1,10 +1,10 @@
 -- The meaning by the kind, at the kind that the match found.
 use mathlib.Core.Path.{sym, ap, _∙_}
 use borrow.Author.Needs.{needs}
-use Rattle.field.specs.declared.inner.Kind.{Kind}
-use Rattle.field.specs.Records.{look}
-use Rattle.field.proofs.inner.look.Statement.{statement}
-use Rattle.field.proofs.inner.look.Tie as tie
+use Rattle.walking.specs.declared.inner.Kind.{Kind}
+use Rattle.walking.specs.Records.{look}
+use Rattle.walking.proofs.inner.look.Statement.{statement}
+use Rattle.walking.proofs.inner.look.Tie as tie
 
 returns : tie.Need-returns
 unfolding look

@@ -4,10 +4,10 @@ use mathlib.Core.List.{List}
 use Rattle.window.specs.declared.Window.{Window}
 use Rattle.window.specs.Refusals.{Refusal, paper, listFull, unresolved}
 use Rattle.window.specs.Parse.{Answer, got, refused}
-use Rattle.field.specs.declared.FieldError.{FieldError}
-use Rattle.field.specs.declared.Stop.{Stop}
-use Rattle.field.specs.declared.Walk.{Walk}
-use Rattle.field.specs.Walks as W
+use Rattle.walking.specs.declared.FieldError.{FieldError}
+use Rattle.walking.specs.declared.Stop.{Stop}
+use Rattle.walking.specs.declared.Walk.{Walk}
+use Rattle.walking.specs.Walks as W
 
 -- the paper's number and values for each case
 abbrev pub fieldPaper : FieldError → Refusal

@@ -9,9 +9,9 @@ use Rattle.window.specs.declared.Window.{Window}
 use Rattle.window.specs.Refusals.{placeOf, listFull}
 use Rattle.window.specs.Parse.{Answer, got, refused, Parse}
 use Rattle.window.specs.Sound.{Sound}
-use Rattle.field.specs.Records.{Found, Looked, finds, bitsLeft}
-use Rattle.field.specs.Walks.{Stop, Walked, numbers, stopped, after, onward, walk, walked}
-use Rattle.field.proofs.Moves.{On}
+use Rattle.walking.specs.Records.{Found, Looked, finds, bitsLeft}
+use Rattle.walking.specs.Walks.{Stop, Walked, numbers, stopped, after, onward, walk, walked}
+use Rattle.walking.proofs.Moves.{On}
 
 pub on-less : {d : List ℕ} {w u : Window} → On 8 w u → Sound d u → bitsLeft u < bitsLeft w
 on-less o s = rw (o .length) (omega (arith, o .on, rw (o .length) at s .cursor-fits))

@@ -1,12 +1,12 @@
 -- `Going` holds at each record; the ways out are one law of Going.
 use mathlib.Core.Path.{refl, ap, sym, _∙_}
 use borrow.Author.Needs.{needs}
-use Rattle.field.specs.declared.inner.Step.{Step}
-use Rattle.field.specs.Records.{lookedAt, look, bitsLeft}
-use Rattle.field.proofs.Moves.{moves-look}
-use Rattle.field.proofs.Going.{Going, on-less, begins, stops, stops-full, goes-on}
-use Rattle.field.proofs.inner.walk.Statement.{statement}
-use Rattle.field.proofs.inner.walk.Tie as tie
+use Rattle.walking.specs.declared.inner.Step.{Step}
+use Rattle.walking.specs.Records.{lookedAt, look, bitsLeft}
+use Rattle.walking.proofs.Moves.{moves-look}
+use Rattle.walking.proofs.Going.{Going, on-less, begins, stops, stops-full, goes-on}
+use Rattle.walking.proofs.inner.walk.Statement.{statement}
+use Rattle.walking.proofs.inner.walk.Tie as tie
 
 abbrev Inv-loop : tie.InvT-loop
 Inv-loop bytes kind records₀ at₀ k₀ records at k = Going (look kind) bytes at₀ records₀ records at k

@@ -5,10 +5,10 @@ use Prim.Native.Nat.{ℕ, zero, suc, _≤_, _<_}
 use native.Mathlib.Omega.{arith}
 use Rattle.window.specs.declared.Window.{Window}
 use Rattle.window.specs.Parse.{Answer, got, refused}
-use Rattle.field.specs.declared.inner.Kind.{Kind}
-use Rattle.field.specs.Records.{Looked, ends, abandons, finds, bitsLeft, look}
-use Rattle.field.specs.Walks.{onward, walk}
-use Rattle.field.proofs.Moves.{moves-look}
+use Rattle.walking.specs.declared.inner.Kind.{Kind}
+use Rattle.walking.specs.Records.{Looked, ends, abandons, finds, bitsLeft, look}
+use Rattle.walking.specs.Walks.{onward, walk}
+use Rattle.walking.proofs.Moves.{moves-look}
 
 module _ (k : Kind) (d : List ℕ) where
   abbrev Agree : ℕ → ℕ → Type 0
