@@ -1,11 +1,7 @@
 -- The calls' promises in the paper's terms determine the answer and the lent memory: no two answers of the code say the same.
 use Prim.Native.Nat.{ℕ}
 use mathlib.Core.Path.{_≡_, refl, ap, sym, _∙_}
-use mathlib.Core.Bool.{cond}
 use mathlib.Core.List.{List, [], _∷_, map}
-use lib.Dec.{eqb}
-use lib.ListN.{getD}
-use Rattle.window.specs.Refusals.{Refusal, unfit, unsound, payloadTooLong, payloadShort, outputShort, tooFewPlaces}
 use Rattle.judging.specs.declared.Displaced as By-value
 use Rattle.judging.specs.declared.Displacement.{Displacement}
 use Rattle.judging.specs.declared.PartialDiscardCause.{PartialDiscardCause}
@@ -13,30 +9,14 @@ use Rattle.judging.specs.Standings.{ofDisplacement}
 use Rattle.held.specs.Memory.{Memory}
 use Rattle.held.specs.Steps.{Told, Answer, refused, judged, handed, nothing}
 use Rattle.held.specs.Calls.{Reply}
-use Rattle.bunch.specs.declared.BunchError.{BunchError}
-use Rattle.bunch.specs.declared.Handed.{Handed}
+use Rattle.held.proofs.Refusals.{unbunch, unbunch-paper}
+use Rattle.taking.specs.declared.Handed.{Handed}
+use Rattle.taking.specs.Answers.{ofHanded}
+use Rattle.joining.specs.declared.Judged.{Judged}
+use Rattle.joining.specs.Answers.{toldBy, ofJudged}
 use Rattle.bunch.specs.declared.Taken.{Taken}
-use Rattle.bunch.specs.declared.Judged.{Judged}
 use Rattle.bunch.specs.declared.Added.{Added}
-use Rattle.bunch.specs.Answers.{errorPaper, ofHanded, ofTaken, toldBy, ofJudged, ofAdded}
-
--- a refusal by its number and what it returns
-unfoldable pub unbunch : Refusal → BunchError
-unbunch r =
-    let n = getD (r .returns) 0 0 in
-    cond (eqb (r .number) 9) BunchError.Unfit
-    (cond (eqb (r .number) 10) BunchError.Unsound
-    (cond (eqb (r .number) 11) (BunchError.PayloadTooLong n)
-    (cond (eqb (r .number) 12) (BunchError.PayloadShort n) (cond (eqb (r .number) 13) (BunchError.OutputShort n) (BunchError.ListFull n)))))
-
-pub unbunch-paper : (e : BunchError) → unbunch (errorPaper e) ≡ e
-unfolding unbunch unfit unsound payloadTooLong payloadShort outputShort tooFewPlaces
-unbunch-paper BunchError.Unfit = refl
-unbunch-paper BunchError.Unsound = refl
-unbunch-paper (BunchError.PayloadTooLong n) = refl
-unbunch-paper (BunchError.PayloadShort n) = refl
-unbunch-paper (BunchError.OutputShort n) = refl
-unbunch-paper (BunchError.ListFull n) = refl
+use Rattle.bunch.specs.Answers.{ofTaken, ofAdded}
 
 -- ## Taking and retiring
 

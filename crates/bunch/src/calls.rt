@@ -3,21 +3,19 @@ ghost use mathlib.Core.Path.{_≡_};
 ghost use Rattle.held.specs.Memory.{memory};
 ghost use Rattle.held.specs.Steps.{adding, taking, retiring};
 ghost use Rattle.held.specs.Calls.{called};
-ghost use Rattle.bunch.specs.declared.BunchError.{BunchError};
-ghost use Rattle.bunch.specs.declared.Handed.{Handed};
-ghost use Rattle.bunch.specs.declared.Judged.{Judged};
+ghost use Rattle.held.specs.declared.BunchError.{BunchError};
+ghost use Rattle.taking.specs.declared.Handed.{Handed};
+ghost use Rattle.joining.specs.declared.Judged.{Judged};
 ghost use Rattle.bunch.specs.Answers.{ofTaken, ofAdded};
 use crate::Added;
-use crate::BunchError;
-use crate::Handed;
-use crate::Judged;
 use crate::Taken;
-use crate::inner::handing;
-use crate::inner::joining;
 use held::Accumulator;
+use held::BunchError;
 use held::inner::Checked;
 use held::inner::pass;
+use joining::Judged;
 use places::Place;
+use taking::Handed;
 use types::RawBunchHeader;
 
 fn refused(a: Accumulator) -> Taken
@@ -29,7 +27,7 @@ fn refused(a: Accumulator) -> Taken
     }
 }
 
-fn taken(given: handing::Given) -> Taken
+fn taken(given: taking::inner::Given) -> Taken
     ensures { λ r. ⌜ r ≡ record { answer = given .answer; accumulator = given .left .accumulator } ⌝ }
 {
     let answer = given.answer;
@@ -55,7 +53,15 @@ pub fn take_completed(
     let checked = pass(a, channels, places, arena);
     match checked {
         Checked::Sound { used } => {
-            let given = handing::take_completed(a, used, ch_index, channels, places, arena, output);
+            let given = taking::inner::take_completed(
+                a,
+                used,
+                ch_index,
+                channels,
+                places,
+                arena,
+                output,
+            );
             taken(given)
         }
         Checked::Unsound => refused(a),
@@ -76,7 +82,15 @@ pub fn retire_channel(
     let checked = pass(a, channels, places, arena);
     match checked {
         Checked::Sound { used } => {
-            let given = handing::retire_channel(a, used, ch_index, channels, places, arena, output);
+            let given = taking::inner::retire_channel(
+                a,
+                used,
+                ch_index,
+                channels,
+                places,
+                arena,
+                output,
+            );
             taken(given)
         }
         Checked::Unsound => refused(a),
@@ -92,7 +106,7 @@ fn unsound(a: Accumulator) -> Added
     }
 }
 
-fn added(outcome: joining::Outcome) -> Added
+fn added(outcome: joining::inner::Outcome) -> Added
     ensures { λ r. ⌜ r ≡ record { answer = outcome .answer; accumulator = outcome .left .accumulator } ⌝ }
 {
     let answer = outcome.answer;
@@ -121,7 +135,7 @@ pub fn add_fragment(
     let checked = pass(a, channels, places, arena);
     match checked {
         Checked::Sound { used } => {
-            let outcome = joining::add_fragment(
+            let outcome = joining::inner::add_fragment(
                 a,
                 used,
                 ch_index,

@@ -10,8 +10,6 @@ ghost use Rattle.exports_bunch.specs.Fragments.{fragmentWords};
 ghost use Rattle.exports_bunch.specs.Handed.{handedWords};
 use bunch::Added;
 use bunch::Taken;
-use bunch::inner::handing;
-use bunch::inner::joining;
 use exports_bunch::fragments;
 use exports_bunch::fragments::FragmentWords;
 use exports_bunch::taken;
@@ -51,7 +49,7 @@ pub extern "C" fn timing_add_fragment(
         total_buffered_bits: total,
     };
     let h = header_of(*header);
-    let outcome = joining::add_fragment(
+    let outcome = joining::inner::add_fragment(
         a,
         used,
         ch_index,
@@ -100,7 +98,7 @@ pub extern "C" fn timing_take_completed(
         active,
         total_buffered_bits: total,
     };
-    let given = handing::take_completed(a, used, ch_index, channels, places, arena, output);
+    let given = taking::inner::take_completed(a, used, ch_index, channels, places, arena, output);
     let left = given.left;
     let answer = given.answer;
     let accumulator = left.accumulator;

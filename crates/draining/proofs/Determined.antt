@@ -8,7 +8,7 @@ use Rattle.draining.specs.declared.Drain.{Drain}
 use Rattle.draining.specs.declared.Emptied.{Emptied}
 use Rattle.draining.specs.declared.Opened.{Opened}
 use Rattle.draining.specs.Opening.{ofOpened}
-use Rattle.bunch.proofs.Determined.{unbunch, unbunch-paper}
+use Rattle.held.proofs.Refusals.{unbunch, unbunch-paper}
 use Rattle.draining.specs.Draining.{Reply, drainAnswer, ofEmptied}
 
 -- an answer, read back

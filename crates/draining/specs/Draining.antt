@@ -12,7 +12,7 @@ use Rattle.held.specs.declared.Accumulator.{Accumulator}
 use Rattle.held.specs.Memory.{Memory, State, bytesAll}
 use Rattle.held.specs.Sound.{sound}
 use Rattle.held.specs.Calls.{heldBy, counting}
-use Rattle.bunch.specs.Answers.{errorPaper}
+use Rattle.held.specs.Refusals.{errorPaper}
 use Rattle.draining.specs.declared.Drain.{Drain}
 use Rattle.draining.specs.declared.Emptied.{Emptied}
 

@@ -1,6 +1,6 @@
 // The accumulator's opening and draining: vrf-net/src/bunch.rs's `with_limits` and `drain_unfinished`, over lent memory.
-use bunch::BunchError;
 use held::Accumulator;
+use held::BunchError;
 
 pub mod drains;
 pub mod inner;

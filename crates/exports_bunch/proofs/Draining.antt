@@ -9,10 +9,10 @@ use Rattle.window.specs.Parse.{value, refusal}
 use Rattle.held.specs.declared.Accumulator.{Accumulator}
 use Rattle.held.specs.Memory.{Memory}
 use Rattle.held.specs.Sound.{sound}
-use Rattle.bunch.specs.declared.BunchError.{BunchError}
+use Rattle.held.specs.declared.BunchError.{BunchError}
 use Rattle.draining.specs.declared.Drain.{Drain}
 use Rattle.draining.specs.declared.Emptied.{Emptied}
-use Rattle.bunch.specs.Answers.{errorPaper}
+use Rattle.held.specs.Refusals.{errorPaper}
 use Rattle.draining.specs.Draining.{Reply, drainAnswer, ofEmptied, drained}
 use Rattle.draining.proofs.Calls.{ten}
 use Rattle.exports_bunch.specs.Drained.{drainedWords}

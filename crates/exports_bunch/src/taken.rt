@@ -4,11 +4,12 @@ ghost use mathlib.Core.List.{List};
 ghost use Prim.Native.Nat.{ℕ};
 ghost use lib.ListN.{getD};
 ghost use Rattle.held.specs.Memory.{Memory};
-ghost use Rattle.bunch.specs.Answers.{errorPaper, ofTaken};
+ghost use Rattle.held.specs.Refusals.{errorPaper};
+ghost use Rattle.bunch.specs.Answers.{ofTaken};
 ghost use Rattle.exports_bunch.specs.Handed.{handedWords};
-use bunch::BunchError;
-use bunch::Handed;
 use bunch::Taken;
+use held::BunchError;
+use taking::Handed;
 use words::of_header;
 
 pub type HandedWords = [u64; 26];

@@ -6,3 +6,5 @@ pub mod Laying
 pub mod Keeping
 pub mod Edits
 pub mod Moves
+pub mod Refusals
+pub mod Words

@@ -1,5 +1,6 @@
 pub mod Memory
 pub mod Sound
+pub mod Refusals
 pub mod State
 pub mod Steps
 pub mod Calls

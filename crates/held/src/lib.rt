@@ -8,3 +8,19 @@ pub struct Accumulator {
     pub active: usize,
     pub total_buffered_bits: u64,
 }
+
+// Why a call refused, each case with document 01's number.
+pub enum BunchError {
+    // 9
+    Unfit,
+    // 10
+    Unsound,
+    // 11
+    PayloadTooLong { count: u64 },
+    // 12
+    PayloadShort { count: u64 },
+    // 13
+    OutputShort { bytes: u64 },
+    // 14
+    ListFull { places: u64 },
+}

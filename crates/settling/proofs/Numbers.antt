@@ -1,11 +1,14 @@
 -- The numbers of sound memory at a slot: what the indices and sums of an edit ask.
 use Prim.Native.Nat.{ℕ, suc, _+_, _*_, _≤_, _<_}
+use mathlib.Core.Path.{_≡_, refl}
 use mathlib.Core.List.{[]}
 use native.Mathlib.Omega.{arith}
-use lib.ListN.{length, getD}
+use lib.ListN.{length, getD, take}
+use Rattle.tables.specs.declared.Slot.{Slot}
+use Rattle.tables.specs.Tables.{slotOf}
 use Rattle.places.proofs.Packed.{start-within}
 use Rattle.held.specs.declared.Accumulator.{Accumulator}
-use Rattle.held.specs.Memory.{Memory, bitsOf, sizeOf}
+use Rattle.held.specs.Memory.{Memory, bitsOf, sizeOf, sizeAll}
 use Rattle.held.specs.Calls.{heldBy}
 use Rattle.held.proofs.Holding.{columns, bytes-fit, total-is, kept, starts, starts-next}
 use Rattle.held.proofs.Laying.{bytes-few}
@@ -50,6 +53,10 @@ numbers a m used c i start o =
       within = omega (arith, o .start-is, o .sound .used-is, starts-next a m s i l, start-within (packed a m) (suc i));
       bits-within = omega (arith, bits-removed a m s c i (o .slot));
     }
+
+-- where the channel's slot was found
+pub spot : (a : Accumulator) (m : Memory) (used : ℕ) → Using a m used → (c i : ℕ) → slotOf c (take (a .active) (m .channels)) ≡ Slot.At i → Numbers a m used i (sizeAll (take i (m .places)))
+spot a m used u c i slot = numbers a m used c i (sizeAll (take i (m .places))) (record { sound = u; slot = slot; start-is = refl })
 
 -- at a vacant one
 pub record Free-numbers (a : Accumulator) (m : Memory) (used i start : ℕ) : Type 0 where

@@ -2,7 +2,7 @@
 ghost use mathlib.Core.Path.{_≡_};
 ghost use mathlib.Core.List.{_++_};
 ghost use Prim.Native.Nat.{_+_, _≤_};
-ghost use lib.ListN.{length};
+ghost use lib.ListN.{length, drop};
 ghost use Rattle.tables.specs.Tables.{put, without};
 ghost use Rattle.places.specs.Bytes.{pasted, part, bytesOf, payloadBytes};
 ghost use Rattle.judging.specs.Held.{Held};
@@ -18,6 +18,7 @@ use places::inner::move_bytes;
 use places::inner::put_payload;
 use places::inner::remove_place;
 use tables::inner;
+use words::HeaderWords;
 
 // What is held after an edit, and how many bytes of the arena are used.
 pub struct Settled {
@@ -126,4 +127,32 @@ pub fn start_message(
     insert_place(places, active, i, p);
     inner::insert(channels, active, i, ch_index);
     counted(a, active + 1, a.total_buffered_bits + bits, used + n)
+}
+
+// A place's header, as words by value.
+pub fn words_of(p: Place) -> HeaderWords
+    ensures { λ r. ⌜ r ≡ drop 4 p ⌝ }
+{
+    [
+        p[4],
+        p[5],
+        p[6],
+        p[7],
+        p[8],
+        p[9],
+        p[10],
+        p[11],
+        p[12],
+        p[13],
+        p[14],
+        p[15],
+        p[16],
+        p[17],
+        p[18],
+        p[19],
+        p[20],
+        p[21],
+        p[22],
+        p[23],
+    ]
 }

@@ -3,7 +3,7 @@ use mathlib.Core.Path.{_≡_, ap}
 use mathlib.Core.List.{List, _∷_}
 use Prim.Native.Nat.{ℕ}
 use lib.ListN.{length}
-use Rattle.bunch.proofs.Words.{wordsFrom}
+use Rattle.held.proofs.Words.{wordsFrom}
 use Rattle.exports_bunch.proofs.Joining.{joined-words}
 use borrow.Author.Needs.{needs}
 use Rattle.exports_bunch.proofs.fragments.joined.Statement.{statement}

@@ -1,0 +1,12 @@
+-- What a call refuses, in the paper's terms.
+use Rattle.window.specs.Refusals.{Refusal, unfit, unsound, payloadTooLong, payloadShort, outputShort, tooFewPlaces}
+use Rattle.held.specs.declared.BunchError.{BunchError}
+
+-- the paper's number and values for each case
+abbrev pub errorPaper : BunchError → Refusal
+errorPaper BunchError.Unfit = unfit
+errorPaper BunchError.Unsound = unsound
+errorPaper (BunchError.PayloadTooLong count) = payloadTooLong count
+errorPaper (BunchError.PayloadShort count) = payloadShort count
+errorPaper (BunchError.OutputShort bytes) = outputShort bytes
+errorPaper (BunchError.ListFull places) = tooFewPlaces places

@@ -1,0 +1,26 @@
+-- The slot that was found decides.
+use mathlib.Core.Path.{sym, _∙_}
+use Rattle.taking.proofs.Handing.{retired-nothing}
+use borrow.Author.Needs.{needs}
+use Rattle.taking.proofs.inner.retire_channel.Statement.{statement}
+use Rattle.taking.proofs.inner.retire_channel.Tie as tie
+
+returns : tie.Need-returns-2
+returns c = let a = c .before .before .before .before .before .before .before .before .args in retired-nothing _ _ _ (c .before .before .before .before .before .before .before .before .pre) _ _ (sym (c .before .before .before .find .ensures) ∙ c .before .enum-told .given .1) (a .output .now) (c .unchanged .ensures)
+
+pub retire-channel-spec : {M : Type 1} → statement M
+retire-channel-spec =
+    tie.close
+    (tie.spec
+    (λ c κs. search needs)
+    (λ c. search needs)
+    (λ c κs. (c .before .before .before .before .before .before .before .before .before .before .before .before .pre, sym (c .before .before .before .before .before .before .before .find .ensures) ∙ c .before .before .before .before .before .i .given .1))
+    (λ c. search needs)
+    (λ c κs. search needs)
+    (λ c. search needs)
+    (λ c. search needs)
+    (λ c. search needs)
+    (λ c. search needs)
+    (λ c. c .before .before .before .before .before .before .before .hand-out .ensures)
+    (λ c. search needs)
+    returns)
