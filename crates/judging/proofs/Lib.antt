@@ -3,4 +3,3 @@ pub mod Judged
 pub mod Ledger
 pub mod Meeting
 pub mod Memory
-pub mod Telling

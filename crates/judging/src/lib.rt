@@ -5,7 +5,6 @@ use types::RawBunchHeader;
 pub mod effects;
 pub mod fates;
 pub mod headers;
-pub mod inner;
 
 // Which limit refused a fragment. Freed room serves later fragments, so the Rust's `Allocation` never occurs.
 pub enum PartialResourceLimit {

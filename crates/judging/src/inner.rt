@@ -1,3 +1,0 @@
-// What a fate comes to, where sums are known to fit.
-pub mod displacement;
-pub mod results;

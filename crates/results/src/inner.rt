@@ -1,0 +1,3 @@
+// Where sums are known to fit.
+pub mod displacement;
+pub mod results;
