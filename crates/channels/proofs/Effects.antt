@@ -14,7 +14,8 @@ use Rattle.tables.proofs.Columns.{laid-take, laid-set}
 use Rattle.header.specs.declared.BunchFields.{BunchFields}
 use Rattle.channels.specs.declared.inner.partials.Effect as I
 use Rattle.channels.specs.declared.inner.partials.Verdict.{Verdict}
-use Rattle.channels.specs.Partials.{Partial, Effect, stays, puts, Tracked, tracked, initial, judged, fragment}
+use Rattle.continuing.specs.Continuing.{Partial}
+use Rattle.channels.specs.Partials.{Effect, stays, puts, Tracked, tracked, initial, judged, fragment}
 use Rattle.channels.specs.Judging.{effectOf, verdictOf}
 use Rattle.channels.specs.Places.{TrackedIn, partialsAt, partialsLaid}
 use Rattle.sequences.specs.Fits.{Live}

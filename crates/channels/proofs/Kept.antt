@@ -11,38 +11,19 @@ use borrow.Author.Tests.{leb-false}
 use Rattle.tables.specs.Columns.{laid, ascending}
 use Rattle.tables.specs.Tables.{Table, Found, none, found, get, put, without, channels, values}
 use Rattle.tables.proofs.Columns.{take-laid, length-laid, beside-whole}
-use Rattle.tables.proofs.Puts.{without-none, without-ascends, put-ascends, length-put-new, length-put-there, length-without-there}
+use Rattle.tables.proofs.Kept.{Kept, without-kept, put-kept}
 use Rattle.tables.proofs.Held.{holds}
 use Rattle.header.specs.declared.BunchFields.{BunchFields}
-use Rattle.sequences.specs.Sequences.{lastSequence, following, flagged, stored, onward, reliably, unreliable, numbered}
-use Rattle.channels.specs.Partials.{Partial, Effect, stays, puts, removed, tracked, effected, inFlight, fragment, tracking}
+use Rattle.continuing.specs.Continuing.{lastSequence, following, Partial}
+use Rattle.sequences.specs.Sequences.{flagged, stored, onward, reliably, unreliable, numbered}
+use Rattle.channels.specs.Partials.{Effect, stays, puts, removed, tracked, effected, inFlight, fragment, tracking}
 use Rattle.sequences.specs.Places.{sequencesAt}
 use Rattle.channels.specs.Places.{partialsAt}
 use Rattle.sequences.specs.Fits.{Fits}
 use Rattle.channels.proofs.Tracking.{same-bears, lives, roomy}
 use Rattle.channels.proofs.Effects.{puts-unfilled}
 
--- a table within the limit
-pub record Kept {A : Type 0} (limit : ℕ) (t : Table A) : Type 0 where
-  pub within : length t ≤ limit
-  pub ordered : ascending (channels t) ≡ true
-
 module _ {A : Type 0} {limit : ℕ} (t : Table A) (kept : Kept limit t) where
-  pub without-kept : (c : ℕ) → Kept limit (without c t)
-  without-kept c = record { within = go (get c t) refl; ordered = without-ascends c t (kept .ordered) }
-    where
-      go : (x : Found A) → get c t ≡ x → length (without c t) ≤ limit
-      go none e = rw (without-none c t e) (kept .within)
-      go (found u) e = omega (arith, length-without-there c t e (kept .ordered), kept .within)
-
-  -- a new channel needs room
-  pub put-kept : (c : ℕ) (v : A) → (get c t ≡ none → length t < limit) → Kept limit (put c v t)
-  put-kept c v room = record { within = go (get c t) refl; ordered = put-ascends c v t (kept .ordered) }
-    where
-      go : (x : Found A) → get c t ≡ x → length (put c v t) ≤ limit
-      go none e = omega (arith, length-put-new c v t e, room e)
-      go (found u) e = omega (arith, length-put-there c v t e (kept .ordered), kept .within)
-
   channels-long : length (channels t) ≡ length t
   channels-long = length-map t (λ (e : ℕ × A). e .0)
 

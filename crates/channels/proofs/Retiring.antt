@@ -7,7 +7,7 @@ use Rattle.tables.specs.declared.Slot.{Slot}
 use Rattle.tables.specs.Columns.{laid, removedAt}
 use Rattle.tables.specs.Tables.{Table, without, slotOf}
 use Rattle.tables.proofs.Columns.{laid-take}
-use Rattle.channels.specs.Partials.{Partial}
+use Rattle.continuing.specs.Continuing.{Partial}
 use Rattle.channels.specs.Places.{partialsAt, LaidPartials}
 use Rattle.sequences.specs.Fits.{Live}
 use Rattle.channels.proofs.Tracking.{Bears, same-bears, without-bears, untouched}

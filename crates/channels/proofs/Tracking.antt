@@ -11,7 +11,7 @@ use Rattle.tables.specs.Tables.{Table, none, found, get, put, without, channels
 use Rattle.tables.proofs.Columns.{length-inserted, length-removed, inserted-beside, removed-beside, set-beside, length-beside, getD-beside, beside-first, beside-second}
 use Rattle.tables.proofs.Join.{at-get, free-get, free-without, at-live, free-live}
 use Rattle.tables.proofs.Held.{Holds, holds, at-put-holds, at-without-holds, free-put-holds}
-use Rattle.channels.specs.Partials.{Partial}
+use Rattle.continuing.specs.Continuing.{Partial}
 use Rattle.channels.specs.Places.{partialsAt}
 use Rattle.sequences.specs.Fits.{Fits, Live}
 

@@ -7,7 +7,8 @@ use Rattle.tables.specs.Tables.{Found, none, found}
 use Rattle.channels.specs.declared.inner.partials.Held.{Held}
 use Rattle.channels.specs.declared.inner.partials.Effect as I
 use Rattle.channels.specs.declared.inner.partials.Verdict.{Verdict}
-use Rattle.channels.specs.Partials.{Partial, Effect, stays, puts, removed, Tracked, tracked}
+use Rattle.continuing.specs.Continuing.{Partial}
+use Rattle.channels.specs.Partials.{Effect, stays, puts, removed, Tracked, tracked}
 
 abbrev pub heldOf : Held → Found Partial
 heldOf Held.Nothing = none

@@ -6,27 +6,7 @@ use lib.ListN.{length}
 use mir.Val.{boolByte}
 use Rattle.tables.specs.Tables.{Table, Found, none, found, get, put, without}
 use Rattle.header.specs.declared.BunchFields.{BunchFields}
-use Rattle.sequences.specs.Sequences.{lastSequence, following}
-
--- what is in flight on a channel: the last fragment's sequence, and a word that is 0 where it is not reliable
-abbrev pub Partial : Type 0
-Partial = ℕ × ℕ
-
-abbrev pub sequenceOf : Partial → ℕ
-sequenceOf p = p .0
-
-abbrev pub isReliable : Partial → Bool
-isReliable p = not (eqb (p .1) 0)
-
--- "Continuing means previous + 1, or for unreliable also equal; reliability must agree."
-abbrev pub agree : Bool → Bool → Bool
-agree true b = b
-agree false b = not b
-
-unfoldable pub continues : Partial → Bool → ℕ → Bool
-continues p reliable sequence =
-    agree (isReliable p) reliable
-    && ((not (eqb (sequenceOf p) lastSequence) && eqb sequence (following (sequenceOf p))) || (not reliable && eqb sequence (sequenceOf p)))
+use Rattle.continuing.specs.Continuing.{Partial, continues}
 
 -- what becomes of the channel's state
 pub data Effect : Type 0 where

@@ -7,7 +7,8 @@ use lib.ListN.{length, take}
 use Rattle.tables.specs.Columns.{laid, beside}
 use Rattle.tables.specs.Tables.{Table, channels, values, entries}
 use Rattle.header.specs.declared.BunchFields.{BunchFields}
-use Rattle.channels.specs.Partials.{Partial, Tracked, effected, inFlight, fragment, tracking}
+use Rattle.continuing.specs.Continuing.{Partial}
+use Rattle.channels.specs.Partials.{Tracked, effected, inFlight, fragment, tracking}
 use Rattle.channels.specs.declared.inner.partials.Tracked as T
 
 abbrev pub partialsAt : ℕ → List ℕ → List ℕ → List ℕ → Table Partial

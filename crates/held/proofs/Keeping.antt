@@ -11,7 +11,7 @@ use Rattle.tables.specs.Columns.{ascending}
 use Rattle.tables.specs.Tables.{none, found, get, put, without, added, channels, values}
 use Rattle.tables.proofs.Ascending.{ascending-rest}
 use Rattle.tables.proofs.Puts.{without-past}
-use Rattle.channels.proofs.Kept as C
+use Rattle.tables.proofs.Kept as T
 use Rattle.places.specs.Packed.{joined}
 use Rattle.judging.specs.Held.{Held}
 use Rattle.held.specs.declared.Accumulator.{Accumulator}
@@ -126,12 +126,12 @@ good-added c {h} (e ∷ s) k g = go (ltb (e .0) c) (good-added c s k (g .1))
 module _ (a : Accumulator) (s : State) (k : Kept a s) (c : ℕ) where
   pub without-kept : Kept a (without c s)
   without-kept =
-      let t = C.without-kept s (record { within = k .within; ordered = k .ordered }) c in
+      let t = T.without-kept s (record { within = k .within; ordered = k .ordered }) c in
       record { ordered = t .ordered; good = good-without c s (k .good); within = t .within; total-within = omega (arith, total-less c s, k .total-within) }
 
   -- a new channel needs a place, and the message its bits
   pub put-kept : (h : Held) → Good h → (get c s ≡ none → length s < a .«max_active») → total (without c s) + h .message .bits ≤ a .«max_buffered_bits» → Kept a (put c h s)
   unfolding put
   put-kept h g room few =
-      let t = C.put-kept s (record { within = k .within; ordered = k .ordered }) c h room in
+      let t = T.put-kept s (record { within = k .within; ordered = k .ordered }) c h room in
       record { ordered = t .ordered; good = good-added c (without c s) g (good-without c s (k .good)); within = t .within; total-within = omega (arith, total-put c s h, few) }

@@ -10,8 +10,7 @@ use Rattle.types.specs.declared.PartialSequenceKind.{PartialSequenceKind}
 use Rattle.types.specs.declared.RawBunchHeader.{RawBunchHeader}
 use Rattle.tables.specs.Columns.{laid, beside}
 use Rattle.tables.specs.Tables.{get}
-use Rattle.channels.specs.Partials.{continues}
-use Rattle.sequences.specs.Sequences.{following}
+use Rattle.continuing.specs.Continuing.{continues, following}
 use Rattle.words.specs.Range.{InRange}
 use Rattle.places.specs.Bytes.{pasted, payloadBytes}
 use Rattle.judging.specs.Held.{Fragment}

@@ -12,7 +12,7 @@ use borrow.Author.Tests.{eq-eqb, le-ltb}
 use Rattle.types.specs.declared.RawBunchHeader.{RawBunchHeader}
 use Rattle.tables.specs.Columns.{laid}
 use Rattle.tables.specs.Tables.{Found, none, found}
-use Rattle.channels.specs.Partials.{continues}
+use Rattle.continuing.specs.Continuing.{continues}
 use Rattle.words.specs.Words.{headerWords}
 use Rattle.places.specs.Bytes.{pasted, payloadBytes}
 use Rattle.judging.specs.Held.{Message, Held, Fragment}

@@ -11,8 +11,7 @@ use Rattle.tables.specs.Tables.{Found, none, found, get, put, without}
 use Rattle.tables.specs.Tables as T
 use Rattle.places.specs.Bytes.{pasted, payloadBytes}
 use Rattle.judging.specs.Held.{Held, Fragment}
-use Rattle.channels.specs.Partials.{continues}
-use Rattle.sequences.specs.Sequences.{following}
+use Rattle.continuing.specs.Continuing.{continues, following}
 use Rattle.judging.specs.Fates.{fate, follows, overlaps, admitted, weighed, ending, continued}
 use Rattle.judging.specs.Headers.{afterTest, flagged}
 use Rattle.judging.specs.Messages.{bytesOfAll, displaced, bitsOfAll, heldAfter}

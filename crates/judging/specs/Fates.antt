@@ -7,7 +7,7 @@ use mir.Val.{ofZ, boolByte}
 use Rattle.types.specs.declared.PartialSequenceKind.{PartialSequenceKind}
 use Rattle.types.specs.declared.RawBunchHeader.{RawBunchHeader}
 use Rattle.tables.specs.Tables.{Found, none, found}
-use Rattle.channels.specs.Partials.{continues}
+use Rattle.continuing.specs.Continuing.{continues}
 use Rattle.judging.specs.declared.PartialDiscardCause.{PartialDiscardCause}
 use Rattle.judging.specs.declared.PartialResourceLimit.{PartialResourceLimit}
 use Rattle.judging.specs.declared.Fate.{Fate}

@@ -9,7 +9,7 @@ use crate::PartialDiscardCause;
 use crate::PartialResourceLimit;
 use crate::Standing;
 use bits::inner::signed;
-use channels::inner::partials::continues;
+use continuing::continues;
 use types::PartialSequenceKind;
 use types::RawBunchHeader;
 

@@ -10,8 +10,9 @@ use Rattle.window.specs.Reads.{need, taken, bits, bit, packedFrom, packed, log2
 use Rattle.tables.specs.Tables.{get, put, without}
 use Rattle.types.specs.Types.{reasonOf}
 use Rattle.header.specs.Header.{fields}
-use Rattle.sequences.specs.Sequences.{following, reliably, unreliable, numbered}
-use Rattle.channels.specs.Partials.{continues, judged, tracking}
+use Rattle.continuing.specs.Continuing.{following, continues}
+use Rattle.sequences.specs.Sequences.{reliably, unreliable, numbered}
+use Rattle.channels.specs.Partials.{judged, tracking}
 use Rattle.reading.specs.Packet.{dataBits, whole, nextBunch}
 use Rattle.log.specs.Log.{versionOf, entryAt, logFrom}
 use Rattle.digits.specs.Decimal.{digitsFrom, decimal, decimalSigned}

@@ -16,7 +16,8 @@ use Rattle.reading.specs.Memory.{Memory, memory, channelsOf, laidIn}
 use Rattle.reading.specs.State.{State}
 use Rattle.reading.specs.Turns.{stopping, settles, finishes}
 use Rattle.reading.proofs.Reading.{partials-held, same-partials}
-use Rattle.channels.proofs.Kept.{Kept, kept-fits, kept-size, sequences-kept, numbered-kept, sequences-back}
+use Rattle.tables.proofs.Kept.{Kept}
+use Rattle.channels.proofs.Kept.{kept-fits, kept-size, sequences-kept, numbered-kept, sequences-back}
 
 module _ {limit s p : ℕ} {m : Memory} (state : State limit s p m) (f : BunchFields) (id at end : ℕ) where
   abbrev S : Table ℕ

@@ -9,13 +9,15 @@ use Rattle.tables.specs.Tables.{channels, values}
 use Rattle.header.specs.declared.BunchFields.{BunchFields}
 use Rattle.header.specs.Header.{Header, unreadable, readable, headerOf, fields}
 use Rattle.sequences.specs.Sequences.{numbered}
-use Rattle.channels.specs.Partials.{Partial, tracking}
+use Rattle.continuing.specs.Continuing.{Partial}
+use Rattle.channels.specs.Partials.{tracking}
 use Rattle.reading.specs.Packet.{Channels, Read, lastByte, dataBits, rest, holding, retired, retires, whole, headed, nextBunch}
 use Rattle.reading.specs.Memory.{Memory, channelsOf, laidIn}
 use Rattle.reading.specs.State.{State}
 use Rattle.reading.specs.declared.BunchRead.{BunchRead}
 use Rattle.reading.specs.Answers.{Reply, ofRead, reply}
-use Rattle.channels.proofs.Kept.{Kept, without-kept, kept-fits, kept-size, numbered-kept, tracking-kept, sequences-kept, partials-kept}
+use Rattle.tables.proofs.Kept.{Kept, without-kept}
+use Rattle.channels.proofs.Kept.{kept-fits, kept-size, numbered-kept, tracking-kept, sequences-kept, partials-kept}
 
 pub record Both (limit : ℕ) (t : Channels) : Type 0 where
   pub sequences-kept : Kept limit (t .sequences)

@@ -8,7 +8,8 @@ use Rattle.tables.specs.Columns.{laid}
 use Rattle.tables.specs.Tables.{Table, without, channels, values}
 use Rattle.tables.proofs.Columns.{laid-take, laid-twice}
 use Rattle.header.specs.declared.BunchFields.{BunchFields}
-use Rattle.channels.specs.Partials.{Partial, Tracked, tracking, effected, inFlight}
+use Rattle.continuing.specs.Continuing.{Partial}
+use Rattle.channels.specs.Partials.{Tracked, tracking, effected, inFlight}
 use Rattle.reading.specs.Packet.{retires, whole}
 use Rattle.sequences.specs.Places.{sequencesAt, LaidSequences}
 use Rattle.channels.specs.Places.{partialsAt, TrackedIn, trackedIn, tracksTo, LaidPartials}
@@ -18,7 +19,8 @@ use Rattle.reading.specs.State.{State}
 use Rattle.reading.specs.Turns.{handedOut, settles}
 use Rattle.channels.specs.declared.inner.partials.Tracked as T
 use Rattle.reading.proofs.Reading.{sequences-held}
-use Rattle.channels.proofs.Kept.{Kept, kept-fits, kept-size, tracking-kept, partials-kept, partials-back}
+use Rattle.tables.proofs.Kept.{Kept}
+use Rattle.channels.proofs.Kept.{kept-fits, kept-size, tracking-kept, partials-kept, partials-back}
 
 module _ {limit s p : ℕ} {m : Memory} (state : State limit s p m) where
   abbrev S : Table ℕ

@@ -15,7 +15,8 @@ use Rattle.types.specs.Types.{reasonOf}
 use Rattle.header.specs.declared.BunchFields.{BunchFields}
 use Rattle.header.specs.Header.{Header, unreadable, readable, headerOf, fields}
 use Rattle.sequences.specs.Sequences.{Numbered, numbered}
-use Rattle.channels.specs.Partials.{Partial, Tracked, tracking, effected, inFlight}
+use Rattle.continuing.specs.Continuing.{Partial}
+use Rattle.channels.specs.Partials.{Tracked, tracking, effected, inFlight}
 
 -- the reader's two tables
 pub record Channels : Type 0 where

@@ -13,7 +13,8 @@ use Rattle.tables.specs.Tables.{Table, none, found, get, slotOf}
 use Rattle.tables.proofs.Columns.{laid-take, laid-set}
 use Rattle.tables.proofs.Join.{at-within, at-get, free-within, free-get}
 use Rattle.tables.proofs.Held.{Holds, holds, at-put-holds, free-put-holds}
-use Rattle.sequences.specs.Sequences.{lastSequence, following, reliably}
+use Rattle.continuing.specs.Continuing.{lastSequence, following}
+use Rattle.sequences.specs.Sequences.{reliably}
 use Rattle.sequences.specs.Places.{sequencesAt, sequencesLaid}
 use Rattle.sequences.specs.Fits.{Fits}
 

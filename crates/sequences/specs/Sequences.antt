@@ -1,17 +1,11 @@
--- The sequence of a bunch. Sequences and packet ids are held as words, the two's complement of 32 bits.
-use Prim.Native.Nat.{ℕ, _+_, _%_, _^_}
+-- The sequence of a bunch. Packet ids are held as words, like sequences.
+use Prim.Native.Nat.{ℕ}
 use mathlib.Core.Bool.{Bool, true, false, cond}
 use lib.Dec.{eqb, leb}
 use lib.ListN.{length}
 use Rattle.tables.specs.Tables.{Table, Found, none, found, get, put}
 use Rattle.header.specs.declared.BunchFields.{BunchFields}
-
--- "After 2,147,483,647"
-abbrev pub lastSequence : ℕ
-lastSequence = 2147483647
-
-unfoldable pub following : ℕ → ℕ
-following word = (word + 1) % 2 ^ 32
+use Rattle.continuing.specs.Continuing.{lastSequence, following}
 
 pub record Numbered : Type 0 where
   pub sequence : ℕ

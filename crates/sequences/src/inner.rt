@@ -3,9 +3,11 @@ ghost use mathlib.Core.Path.{_≡_};
 ghost use Prim.Native.Nat.{_≤_};
 ghost use lib.ListN.{length};
 ghost use Rattle.tables.specs.Tables.{without};
-ghost use Rattle.sequences.specs.Sequences.{following, reliably};
+ghost use Rattle.continuing.specs.Continuing.{following};
+ghost use Rattle.sequences.specs.Sequences.{reliably};
 ghost use Rattle.sequences.specs.Places.{sequencesAt, numberedIn, sequencesLaid, LaidSequences};
 ghost use Rattle.sequences.specs.Fits.{Fits, Live};
+use continuing::following;
 use tables::Slot;
 use tables::inner;
 
@@ -13,12 +15,6 @@ pub struct Numbered {
     pub sequence: u32,
     pub limited: bool,
     pub live: usize,
-}
-
-pub fn following(word: u32) -> u32
-    ensures { λ r. ⌜ r ≡ following word ⌝ }
-{
-    if word == 4294967295 { 0 } else { word + 1 }
 }
 
 pub fn reliably(

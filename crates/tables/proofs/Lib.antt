@@ -5,3 +5,4 @@ pub mod Columns
 pub mod Puts
 pub mod Join
 pub mod Held
+pub mod Kept

@@ -4,13 +4,13 @@ ghost use Prim.Native.Nat.{_≤_};
 ghost use lib.ListN.{length, take};
 ghost use Rattle.tables.specs.declared.Slot.{Slot};
 ghost use Rattle.tables.specs.Tables.{slotOf};
-ghost use Rattle.channels.specs.Partials.{agree, continues, tracked, initial, continuing, judged};
+ghost use Rattle.channels.specs.Partials.{tracked, initial, continuing, judged};
 ghost use Rattle.channels.specs.Judging.{Roomy, heldOf, effectOf, verdictOf};
 ghost use Rattle.channels.specs.Places.{partialsAt, trackedIn, effectedIn, fragmentTo, tracksTo};
 ghost use Rattle.sequences.specs.Fits.{Fits, Live};
 use crate::inner::retire::take_out;
+use continuing::continues;
 use header::BunchFields;
-use sequences::inner::following;
 use tables::Slot;
 use tables::inner;
 
@@ -37,21 +37,6 @@ pub struct Verdict {
     pub effect: Effect,
     pub error: bool,
     pub completed: bool,
-}
-
-fn agree(a: bool, b: bool) -> bool
-    ensures { λ r. ⌜ r ≡ agree a b ⌝ }
-{
-    if a { b } else { !b }
-}
-
-pub fn continues(held_sequence: u32, held_reliable: u32, reliable: bool, sequence: u32) -> bool
-    ensures { λ r. ⌜ r ≡ continues («held_sequence», «held_reliable») reliable sequence ⌝ }
-{
-    let next = following(held_sequence);
-    agree(held_reliable != 0, reliable)
-        & (((held_sequence != 2147483647) & (sequence == next))
-            | (!reliable & (sequence == held_sequence)))
 }
 
 fn ruled(effect: Effect, error: bool, completed: bool) -> Verdict

@@ -1,8 +1,8 @@
 -- The definition, word for word.
 use borrow.Author.Needs.{needs}
-use Rattle.channels.specs.Partials.{continues}
-use Rattle.channels.proofs.inner.partials.continues.Statement.{statement}
-use Rattle.channels.proofs.inner.partials.continues.Tie as tie
+use Rattle.continuing.specs.Continuing.{continues}
+use Rattle.continuing.proofs.continues.Statement.{statement}
+use Rattle.continuing.proofs.continues.Tie as tie
 
 returns : tie.Need-returns
 unfolding continues
