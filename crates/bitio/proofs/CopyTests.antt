@@ -14,7 +14,7 @@ use Rattle.window.specs.Copies.{copied, copyBits, copyLeaves}
 use Rattle.window.specs.Answers.{doneAnswer}
 use Rattle.window.specs.Sound.{Sound}
 use Rattle.window.proofs.Rows.{ahead}
-use Rattle.bitio.proofs.Tests.{passes}
+use Rattle.cursor.proofs.Tests.{passes}
 
 pub record Copyable (d : List ℕ) (w : Window) (room n : ℕ) : Type 0 where
   pub window : Sound d w

@@ -1,4 +1,3 @@
-pub mod Tests
 pub mod Values
 pub mod CopyTests
 pub mod Determined

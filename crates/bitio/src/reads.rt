@@ -6,9 +6,9 @@ ghost use Rattle.window.specs.Reads.{readBit, readBits, readI32, readF32, readF
 ghost use Rattle.window.specs.Parse.{got};
 ghost use Rattle.bits.specs.Floats.{reading};
 ghost use Rattle.window.specs.Answers.{ofBit, ofU8, ofU16, ofU32, ofI32, ofU64, ofF32, ofF64, f32Answer, f64Answer};
-use crate::windows;
 use bits::inner::masks;
 use bits::inner::signed;
+use cursor::windows;
 use window::Bit;
 use window::BitError;
 use window::BitRead;

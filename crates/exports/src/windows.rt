@@ -4,7 +4,7 @@ ghost use Rattle.window.specs.Windows.{newWindow, withBitLen, bitsRemaining, at
 ghost use Rattle.answers.specs.Words.{windowAt, words, openedWords, countWords, none, window};
 use answers::words;
 use answers::words::Words;
-use bitio::windows;
+use cursor::windows;
 
 #[no_mangle]
 pub extern "C" fn gritwheel_new(bytes: &[u8], out: &mut Words)

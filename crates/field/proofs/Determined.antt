@@ -9,7 +9,7 @@ use Rattle.window.specs.declared.BitError.{BitError}
 use Rattle.window.specs.declared.BitError.the-variants.{Eof, MalformedIntPacked, IntPackedOverflow, InvalidSerializedIntMax, InvalidBitLength, InvalidWidth, DataTooLong}
 use Rattle.window.specs.Refusals.{Refusal, paper, tooFewBits, endless, tooLarge, zeroMaximum, beyond, tooWide, tooLong, listFull, unresolved}
 use Rattle.window.specs.Parse.{Answer, got, refused}
-use Rattle.bitio.proofs.Determined.{placeAt, unpaper, unpaper-paper}
+use Rattle.cursor.proofs.Determined.{placeAt, unpaper, unpaper-paper}
 use Rattle.walking.specs.declared.FieldError.{FieldError}
 use Rattle.walking.specs.declared.Stop.{Stop}
 use Rattle.walking.specs.declared.Walk.{Walk}

@@ -10,7 +10,7 @@ use Rattle.window.specs.Refusals.{Refusal, unresolved}
 use Rattle.window.specs.Parse.{got, refused, _>>_, give, refuse, refuseIf}
 use Rattle.window.specs.Reads.{sound, bit, readBit}
 use Rattle.window.specs.Sound.{Sound}
-use Rattle.bitio.proofs.Tests.{passes}
+use Rattle.cursor.proofs.Tests.{passes}
 use Rattle.window.proofs.Keeps.{sound-stays, Keeps, keeps-then, keeps-give, keeps-bits}
 use Rattle.walking.specs.Records.{repLayout, classNetCache}
 use Rattle.walking.specs.Walks.{stopped, walked}

@@ -5,7 +5,7 @@ ghost use Rattle.window.specs.Parse.{refused};
 ghost use Rattle.field.specs.Walks.{parseRepLayout, parseClassNetCache, settled};
 ghost use Rattle.walking.specs.Answers.{fieldPaper, stopAnswer, ofWalk};
 use bitio::reads;
-use bitio::windows;
+use cursor::windows;
 use walking::FieldError;
 use walking::Record;
 use walking::Stop;

@@ -5,7 +5,7 @@ use lib.Dec.{eqb}
 use lib.ListN.{getD}
 use Rattle.window.specs.Refusals.{Refusal, beyond, packetTooLong, unfit, unsound}
 use Rattle.window.specs.Parse.{Result, value, refusal}
-use Rattle.bitio.proofs.Determined.{determined}
+use Rattle.cursor.proofs.Determined.{determined}
 use Rattle.reading.specs.declared.PacketError.{PacketError}
 use Rattle.reading.specs.declared.Bunch.{Bunch}
 use Rattle.reading.specs.declared.BunchRead.{BunchRead}

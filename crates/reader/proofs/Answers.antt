@@ -1,4 +1,4 @@
--- What a call of `bitio` answers, as the walks of this crate see it: an enum, and in a struct beside it the next window.
+-- What a call of `cursor` or `bitio` answers, as the walks of this crate see it: an enum, and in a struct beside it the next window.
 use mathlib.Core.Path.{_≡_, refl, sym, subst}
 use mathlib.Core.List.{List, [], _∷_}
 use mir.Syntax.{Sym, Ty}

@@ -1,4 +1,4 @@
--- A method of a reader that asks one call of `bitio` at the reader's place, with no argument: the walk of its code, once for every answer.
+-- A method of a reader that asks one call of `cursor` or `bitio` at the reader's place, with no argument: the walk of its code, once for every answer.
 -- The borrow of the reader is opened, the slice and a window of the three numbers go to the call, a reader at the next window is stored, and the borrow is closed at it.
 -- All that the walk knows of the call is what it promises.
 use mathlib.Core.Path.{_≡_, refl, ap}

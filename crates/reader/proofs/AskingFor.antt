@@ -1,4 +1,4 @@
--- A method of a reader that asks one call of `bitio` at the reader's place, with one number: the walk of its code, as in Asking, with one local more.
+-- A method of a reader that asks one call of `cursor` or `bitio` at the reader's place, with one number: the walk of its code, as in Asking, with one local more.
 use mathlib.Core.Path.{_≡_, refl, ap}
 use Prim.Native.Nat.{ℕ}
 use mathlib.Core.List.{List, [], _∷_}

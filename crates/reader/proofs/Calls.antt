@@ -1,4 +1,4 @@
--- The answers of `bitio`'s calls: each of those with a next window as a `Kind`, and the plain ones.
+-- The answers of `cursor`'s and `bitio`'s calls: each of those with a next window as a `Kind`, and the plain ones.
 use Rattle.window.proofs.Done as Done
 use Rattle.window.proofs.Done.Laws as Done′
 use Rattle.window.proofs.DoneRead as DoneRead

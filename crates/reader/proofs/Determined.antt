@@ -8,7 +8,8 @@ use Rattle.window.specs.declared.Done.{Done}
 use Rattle.window.specs.Answers.{doneAnswer, bitAnswer, u8Answer, u16Answer, u32Answer, i32Answer, u64Answer, f32Answer, f64Answer}
 use Rattle.window.specs.Parse.{Answer, Result, Parse}
 use Rattle.window.specs.Copies.{copyBits}
-use Rattle.bitio.proofs.Determined.{refusal-determined, done-determined, bit-determined, u8-determined, u16-determined, u32-determined, i32-determined, u64-determined, f32-determined, f64-determined}
+use Rattle.cursor.proofs.Determined.{refusal-determined, done-determined}
+use Rattle.bitio.proofs.Determined.{bit-determined, u8-determined, u16-determined, u32-determined, i32-determined, u64-determined, f32-determined, f64-determined}
 use Rattle.reader.specs.declared.BitReader.{BitReader}
 use Rattle.reader.specs.declared.Opening.{Opening}
 use Rattle.reader.specs.Readers.{windowOf, Moved, Copied}

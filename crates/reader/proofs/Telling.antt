@@ -1,4 +1,4 @@
--- A method of a reader that only looks at its place: it asks one call of `bitio` about the window, and answers what that answers. The walk of its code, once for every answer.
+-- A method of a reader that only looks at its place: it asks one call of `cursor` about the window, and answers what that answers. The walk of its code, once for every answer.
 -- The shared borrow is looked into, the three numbers go to the call as a window, and the borrow is shut.
 use mathlib.Core.Path.{_≡_, refl}
 use Prim.Native.Nat.{ℕ}

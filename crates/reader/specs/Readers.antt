@@ -1,4 +1,4 @@
--- A reader's place as `bitio`'s window, and what a read or a copy leaves of a reader.
+-- A reader's place as a window, and what a read or a copy leaves of a reader.
 use mathlib.Core.Path.{_≡_}
 use Prim.Native.Nat.{ℕ, _+_}
 use mathlib.Core.List.{List}

@@ -5,7 +5,7 @@ ghost use Rattle.window.specs.Windows.{withBitLen};
 ghost use Rattle.window.specs.Answers.{ofU32, ofU64};
 ghost use Rattle.reader.specs.Openings.{ofNumber, readOpened};
 use crate::BitReader;
-use bitio::windows;
+use cursor::windows;
 use window::Opened;
 use window::U32;
 use window::U32Read;

@@ -6,7 +6,7 @@ ghost use Rattle.reader.specs.Readers.{windowOf, Moved};
 ghost use Rattle.reader.specs.Openings.{Opens, Cuts, Handed};
 use crate::BitReader;
 use crate::Opening;
-use bitio::windows;
+use cursor::windows;
 use window::Done;
 use window::DoneRead;
 use window::Opened;

@@ -15,7 +15,7 @@ use Rattle.window.specs.Copies.{copyBits}
 use Rattle.window.specs.Answers.{doneAnswer}
 use Rattle.window.specs.Sound.{Sound}
 use Rattle.window.proofs.Rows.{next-got, next-refused, refuses, lets-on, ahead}
-use Rattle.bitio.proofs.Tests.{stopped}
+use Rattle.cursor.proofs.Tests.{stopped}
 use Rattle.window.proofs.Steps.{skip-there, sound-past}
 use Rattle.timing.specs.Sums.{Made, oneMore, copyOver}
 use Rattle.timing.proofs.Laws.{already}

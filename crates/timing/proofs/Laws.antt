@@ -15,7 +15,7 @@ use Rattle.window.specs.Reads.{sound, bit, bits, packed, serialized, readBit, r
 use Rattle.window.specs.Answers.{doneAnswer}
 use Rattle.window.specs.Sound.{Sound}
 use Rattle.window.proofs.Rows.{then-got, then-refused, next-got, refuses, lets-on}
-use Rattle.bitio.proofs.Tests.{fine, stopped}
+use Rattle.cursor.proofs.Tests.{fine, stopped}
 use Rattle.timing.specs.Sums.{calls, plus}
 
 -- after k of n calls, with the state and the window that they left

@@ -1,8 +1,8 @@
 // Many reads in one call, for bench/ to time: the window is tested and the mask table made once, as the project's own crates do it.
 ghost use mathlib.Core.Path.{_≡_};
 ghost use Rattle.timing.specs.Sums.{window, bitSum, bitsSum, packedSum, serializedSum, copiesMade};
-use bitio::windows;
 use bits::inner::masks;
+use cursor::windows;
 use window::Bit;
 use window::Done;
 use window::PacketBit;

@@ -7,7 +7,7 @@ use lib.Dec.{eqb}
 use lib.ListN.{getD}
 use Rattle.window.specs.Refusals.{Refusal, beyond, payloadTooLong, payloadShort, unwritable, noRoom}
 use Rattle.window.specs.Parse.{Result, value, refusal}
-use Rattle.bitio.proofs.Determined.{determined}
+use Rattle.cursor.proofs.Determined.{determined}
 use Rattle.writer.specs.declared.WriteError.{WriteError}
 use Rattle.writer.specs.declared.Written.{Written}
 use Rattle.writer.specs.Answers.{writePaper, Reply, ofWritten, replied}

@@ -4,7 +4,7 @@ use Prim.Native.Nat.{_-_}
 use native.Mathlib.Omega.{arith}
 use lib.ListN.{length, getD}
 use borrow.Author.Needs.{needs}
-use Rattle.bitio.proofs.Tests.{tested}
+use Rattle.cursor.proofs.Tests.{tested}
 use Rattle.timing.specs.Sums.{oneMore, copyOver, copiesMade, window}
 use Rattle.timing.proofs.Laws.{Row, begin, next, stop, finish, at-once}
 use Rattle.timing.proofs.Copies.{no-copy, no-room, too-few, copy-made, there, sound-after}

@@ -4,7 +4,7 @@ use Prim.Native.Nat.{_-_}
 use mir.Val.{boolByte}
 use borrow.Author.Needs.{needs}
 use Rattle.window.specs.Reads.{bit, readBit}
-use Rattle.bitio.proofs.Tests.{tested}
+use Rattle.cursor.proofs.Tests.{tested}
 use Rattle.timing.specs.Sums.{plus, window, bitSum}
 use Rattle.timing.proofs.Laws.{Row, begin, adds, sum-ends, finish, no-sum, bit-on}
 use Rattle.timing.proofs.timing_read_bit.Statement.{statement}

@@ -7,7 +7,7 @@ use borrow.Author.Needs.{needs}
 use Rattle.window.specs.Refusals.{tooWide}
 use Rattle.window.specs.Parse.{_>>_, refuseIf}
 use Rattle.window.specs.Reads.{bits, readBits}
-use Rattle.bitio.proofs.Tests.{tested}
+use Rattle.cursor.proofs.Tests.{tested}
 use Rattle.timing.specs.Sums.{plus, window, bitsSum}
 use Rattle.timing.proofs.Laws.{Row, begin, adds, sum-ends, finish, no-sum, bits-on, too-wide}
 use Rattle.timing.proofs.timing_read_bits.Statement.{statement}

@@ -10,7 +10,7 @@ use Rattle.window.specs.Parse.{Parse, _>>_, refuseIf}
 use Rattle.window.specs.Reads.{skip}
 use Rattle.window.specs.Copies.{copyBits}
 use Rattle.window.proofs.Rows.{refuses, lets-on}
-use Rattle.bitio.proofs.Tests.{stopped, went-on, tested}
+use Rattle.cursor.proofs.Tests.{stopped, went-on, tested}
 use Rattle.bitio.proofs.copies.judge.Statement.{statement}
 use Rattle.bitio.proofs.copies.judge.Tie as tie
 

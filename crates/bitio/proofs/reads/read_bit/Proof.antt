@@ -2,7 +2,7 @@
 use mathlib.Core.Path.{sym, _∙_}
 use borrow.Author.Needs.{needs}
 use Rattle.window.specs.Reads.{bit, readBit}
-use Rattle.bitio.proofs.Tests.{stopped, went-on, tested}
+use Rattle.cursor.proofs.Tests.{stopped, went-on, tested}
 use Rattle.bitio.proofs.reads.read_bit.Statement.{statement}
 use Rattle.bitio.proofs.reads.read_bit.Tie as tie
 

@@ -8,7 +8,7 @@ use Rattle.window.specs.Refusals.{tooWide}
 use Rattle.window.specs.Parse.{Parse, _>>_, refuseIf}
 use Rattle.window.specs.Reads.{bits, readBits}
 use Rattle.window.proofs.Rows.{refuses, lets-on}
-use Rattle.bitio.proofs.Tests.{stopped, went-on, tested}
+use Rattle.cursor.proofs.Tests.{stopped, went-on, tested}
 use Rattle.bitio.proofs.reads.read_bits.Statement.{statement}
 use Rattle.bitio.proofs.reads.read_bits.Tie as tie
 

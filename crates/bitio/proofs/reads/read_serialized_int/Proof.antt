@@ -9,7 +9,7 @@ use Rattle.window.specs.Refusals.{zeroMaximum}
 use Rattle.window.specs.Parse.{Parse, _>>_, refuseIf}
 use Rattle.window.specs.Reads.{serialized, readSerialized}
 use Rattle.window.proofs.Rows.{refuses, lets-on}
-use Rattle.bitio.proofs.Tests.{stopped, went-on, tested}
+use Rattle.cursor.proofs.Tests.{stopped, went-on, tested}
 use Rattle.bitio.proofs.reads.read_serialized_int.Statement.{statement}
 use Rattle.bitio.proofs.reads.read_serialized_int.Tie as tie
 

@@ -1,4 +1,4 @@
--- What `bitio` cuts out, taken apart.
+-- What `cursor` cuts out, taken apart.
 use borrow.Author.Needs.{needs}
 use Rattle.window.specs.declared.Done.{Done}
 use Rattle.window.specs.declared.Opened.{Opened}

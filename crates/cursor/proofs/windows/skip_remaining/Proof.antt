@@ -2,9 +2,9 @@
 use mathlib.Core.Path.{sym}
 use borrow.Author.Needs.{needs}
 use Rattle.window.specs.Windows.{ended, skipRemaining}
-use Rattle.bitio.proofs.Tests.{stopped, went-on}
-use Rattle.bitio.proofs.windows.skip_remaining.Statement.{statement}
-use Rattle.bitio.proofs.windows.skip_remaining.Tie as tie
+use Rattle.cursor.proofs.Tests.{stopped, went-on}
+use Rattle.cursor.proofs.windows.skip_remaining.Statement.{statement}
+use Rattle.cursor.proofs.windows.skip_remaining.Tie as tie
 
 returns : tie.Need-returns
 unfolding skipRemaining

@@ -3,9 +3,9 @@ use mathlib.Core.Path.{sym, _∙_}
 use borrow.Author.Needs.{needs}
 use Rattle.window.specs.Reads.{skip}
 use Rattle.window.specs.Windows.{skipBits}
-use Rattle.bitio.proofs.Tests.{stopped, went-on, tested}
-use Rattle.bitio.proofs.windows.skip_bits.Statement.{statement}
-use Rattle.bitio.proofs.windows.skip_bits.Tie as tie
+use Rattle.cursor.proofs.Tests.{stopped, went-on, tested}
+use Rattle.cursor.proofs.windows.skip_bits.Statement.{statement}
+use Rattle.cursor.proofs.windows.skip_bits.Tie as tie
 
 returns : tie.Need-returns
 unfolding skipBits

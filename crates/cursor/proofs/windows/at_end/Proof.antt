@@ -1,8 +1,8 @@
 -- The test is the definition.
 use Rattle.window.specs.Windows.{atEnd}
 use mathlib.Core.Path.{refl}
-use Rattle.bitio.proofs.windows.at_end.Statement.{statement}
-use Rattle.bitio.proofs.windows.at_end.Tie as tie
+use Rattle.cursor.proofs.windows.at_end.Statement.{statement}
+use Rattle.cursor.proofs.windows.at_end.Tie as tie
 
 returns : tie.Need-returns
 unfolding atEnd

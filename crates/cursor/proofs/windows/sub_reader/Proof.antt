@@ -3,9 +3,9 @@ use mathlib.Core.Path.{sym, _∙_}
 use native.Mathlib.Omega.{arith}
 use borrow.Author.Needs.{needs}
 use Rattle.window.specs.Windows.{sub, subReader}
-use Rattle.bitio.proofs.Tests.{stopped, went-on, tested}
-use Rattle.bitio.proofs.windows.sub_reader.Statement.{statement}
-use Rattle.bitio.proofs.windows.sub_reader.Tie as tie
+use Rattle.cursor.proofs.Tests.{stopped, went-on, tested}
+use Rattle.cursor.proofs.windows.sub_reader.Statement.{statement}
+use Rattle.cursor.proofs.windows.sub_reader.Tie as tie
 
 returns : tie.Need-returns
 unfolding subReader

@@ -1,8 +1,8 @@
 -- The test and its two cases.
 use borrow.Author.Tests.{lt-ltb, le-ltb}
 use Rattle.window.specs.Windows.{bitsRemaining}
-use Rattle.bitio.proofs.windows.bits_remaining.Statement.{statement}
-use Rattle.bitio.proofs.windows.bits_remaining.Tie as tie
+use Rattle.cursor.proofs.windows.bits_remaining.Statement.{statement}
+use Rattle.cursor.proofs.windows.bits_remaining.Tie as tie
 
 returns : tie.Need-returns
 unfolding bitsRemaining

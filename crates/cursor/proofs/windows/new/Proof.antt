@@ -2,8 +2,8 @@
 use borrow.Author.Tests.{lt-ltb, le-ltb}
 use borrow.Author.Needs.{needs}
 use Rattle.window.specs.Windows.{newWindow}
-use Rattle.bitio.proofs.windows.new.Statement.{statement}
-use Rattle.bitio.proofs.windows.new.Tie as tie
+use Rattle.cursor.proofs.windows.new.Statement.{statement}
+use Rattle.cursor.proofs.windows.new.Tie as tie
 
 returns : tie.Need-returns
 unfolding newWindow

@@ -5,9 +5,9 @@ use native.Mathlib.Omega.{arith}
 use borrow.Author.Needs.{needs}
 use Rattle.window.specs.Refusals.{beyond}
 use Rattle.window.specs.Parse.{refused}
-use Rattle.bitio.proofs.Tests.{too-long, past-data, past-window, fine}
-use Rattle.bitio.proofs.windows.test.Statement.{statement}
-use Rattle.bitio.proofs.windows.test.Tie as tie
+use Rattle.cursor.proofs.Tests.{too-long, past-data, past-window, fine}
+use Rattle.cursor.proofs.windows.test.Statement.{statement}
+use Rattle.cursor.proofs.windows.test.Tie as tie
 
 returns : tie.Need-returns
 returns c = sym (too-long (c .before .before .args .bytes .now) (c .before .before .args .w) (c .if1 .taken))

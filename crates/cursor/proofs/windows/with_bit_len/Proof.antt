@@ -2,8 +2,8 @@
 use borrow.Author.Tests.{lt-ltb, le-ltb}
 use borrow.Author.Needs.{needs}
 use Rattle.window.specs.Windows.{withBitLen}
-use Rattle.bitio.proofs.windows.with_bit_len.Statement.{statement}
-use Rattle.bitio.proofs.windows.with_bit_len.Tie as tie
+use Rattle.cursor.proofs.windows.with_bit_len.Statement.{statement}
+use Rattle.cursor.proofs.windows.with_bit_len.Tie as tie
 
 returns : tie.Need-returns
 unfolding withBitLen
