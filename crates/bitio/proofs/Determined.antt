@@ -1,5 +1,5 @@
 -- A promise in the paper's terms determines what a read answers: no two answers of the code say the same.
-use mathlib.Core.Path.{_≡_, refl, ap, sym, _∙_}
+use mathlib.Core.Path.{_≡_, refl, ap}
 use Rattle.window.specs.declared.Window.{Window}
 use Rattle.window.specs.declared.Bit.{Bit}
 use Rattle.window.specs.declared.BitRead.{BitRead}
@@ -19,7 +19,7 @@ use Rattle.window.specs.declared.F64.{F64}
 use Rattle.window.specs.declared.F64Read.{F64Read}
 use Rattle.bits.specs.Floats.{Reading, number, noNumber}
 use Rattle.window.specs.Answers.{bitAnswer, u8Answer, u16Answer, u32Answer, i32Answer, u64Answer, f32Answer, f64Answer, ofBit, ofU8, ofU16, ofU32, ofI32, ofU64, ofF32, ofF64}
-use Rattle.cursor.proofs.Determined.{back, back-refused}
+use Rattle.cursor.proofs.Determined.{back, back-refused, both-determined}
 
 abbrev single : Reading → F32
 single (number x) = F32.Value x
@@ -34,54 +34,42 @@ bit-back (Bit.Value v) w = refl
 bit-back (Bit.Refused e) w = back-refused Bit.Value Bit.Refused e w
 
 pub bit-determined : (r s : BitRead) → ofBit r ≡ ofBit s → r ≡ s
-bit-determined r s e =
-    ap (λ (p : Bit × Window). record { answer = p .0; next = p .1 })
-    (sym (bit-back (r .answer) (r .next)) ∙ ap (back Bit.Value Bit.Refused) e ∙ bit-back (s .answer) (s .next))
+bit-determined r s e = ap (λ (p : Bit × Window). record { answer = p .0; next = p .1 }) (both-determined Bit.Value Bit.Refused bitAnswer bit-back e)
 
 u8-back : (a : U8) (w : Window) → back U8.Value U8.Refused (u8Answer a w) ≡ (a, w)
 u8-back (U8.Value v) w = refl
 u8-back (U8.Refused e) w = back-refused U8.Value U8.Refused e w
 
 pub u8-determined : (r s : U8Read) → ofU8 r ≡ ofU8 s → r ≡ s
-u8-determined r s e =
-    ap (λ (p : U8 × Window). record { answer = p .0; next = p .1 })
-    (sym (u8-back (r .answer) (r .next)) ∙ ap (back U8.Value U8.Refused) e ∙ u8-back (s .answer) (s .next))
+u8-determined r s e = ap (λ (p : U8 × Window). record { answer = p .0; next = p .1 }) (both-determined U8.Value U8.Refused u8Answer u8-back e)
 
 u16-back : (a : U16) (w : Window) → back U16.Value U16.Refused (u16Answer a w) ≡ (a, w)
 u16-back (U16.Value v) w = refl
 u16-back (U16.Refused e) w = back-refused U16.Value U16.Refused e w
 
 pub u16-determined : (r s : U16Read) → ofU16 r ≡ ofU16 s → r ≡ s
-u16-determined r s e =
-    ap (λ (p : U16 × Window). record { answer = p .0; next = p .1 })
-    (sym (u16-back (r .answer) (r .next)) ∙ ap (back U16.Value U16.Refused) e ∙ u16-back (s .answer) (s .next))
+u16-determined r s e = ap (λ (p : U16 × Window). record { answer = p .0; next = p .1 }) (both-determined U16.Value U16.Refused u16Answer u16-back e)
 
 u32-back : (a : U32) (w : Window) → back U32.Value U32.Refused (u32Answer a w) ≡ (a, w)
 u32-back (U32.Value v) w = refl
 u32-back (U32.Refused e) w = back-refused U32.Value U32.Refused e w
 
 pub u32-determined : (r s : U32Read) → ofU32 r ≡ ofU32 s → r ≡ s
-u32-determined r s e =
-    ap (λ (p : U32 × Window). record { answer = p .0; next = p .1 })
-    (sym (u32-back (r .answer) (r .next)) ∙ ap (back U32.Value U32.Refused) e ∙ u32-back (s .answer) (s .next))
+u32-determined r s e = ap (λ (p : U32 × Window). record { answer = p .0; next = p .1 }) (both-determined U32.Value U32.Refused u32Answer u32-back e)
 
 i32-back : (a : I32) (w : Window) → back I32.Value I32.Refused (i32Answer a w) ≡ (a, w)
 i32-back (I32.Value v) w = refl
 i32-back (I32.Refused e) w = back-refused I32.Value I32.Refused e w
 
 pub i32-determined : (r s : I32Read) → ofI32 r ≡ ofI32 s → r ≡ s
-i32-determined r s e =
-    ap (λ (p : I32 × Window). record { answer = p .0; next = p .1 })
-    (sym (i32-back (r .answer) (r .next)) ∙ ap (back I32.Value I32.Refused) e ∙ i32-back (s .answer) (s .next))
+i32-determined r s e = ap (λ (p : I32 × Window). record { answer = p .0; next = p .1 }) (both-determined I32.Value I32.Refused i32Answer i32-back e)
 
 u64-back : (a : U64) (w : Window) → back U64.Value U64.Refused (u64Answer a w) ≡ (a, w)
 u64-back (U64.Value v) w = refl
 u64-back (U64.Refused e) w = back-refused U64.Value U64.Refused e w
 
 pub u64-determined : (r s : U64Read) → ofU64 r ≡ ofU64 s → r ≡ s
-u64-determined r s e =
-    ap (λ (p : U64 × Window). record { answer = p .0; next = p .1 })
-    (sym (u64-back (r .answer) (r .next)) ∙ ap (back U64.Value U64.Refused) e ∙ u64-back (s .answer) (s .next))
+u64-determined r s e = ap (λ (p : U64 × Window). record { answer = p .0; next = p .1 }) (both-determined U64.Value U64.Refused u64Answer u64-back e)
 
 f32-back : (a : F32) (w : Window) → back single F32.Refused (f32Answer a w) ≡ (a, w)
 f32-back (F32.Value x) w = refl
@@ -89,9 +77,7 @@ f32-back (F32.NotANumber b) w = refl
 f32-back (F32.Refused e) w = back-refused single F32.Refused e w
 
 pub f32-determined : (r s : F32Read) → ofF32 r ≡ ofF32 s → r ≡ s
-f32-determined r s e =
-    ap (λ (p : F32 × Window). record { answer = p .0; next = p .1 })
-    (sym (f32-back (r .answer) (r .next)) ∙ ap (back single F32.Refused) e ∙ f32-back (s .answer) (s .next))
+f32-determined r s e = ap (λ (p : F32 × Window). record { answer = p .0; next = p .1 }) (both-determined single F32.Refused f32Answer f32-back e)
 
 f64-back : (a : F64) (w : Window) → back double F64.Refused (f64Answer a w) ≡ (a, w)
 f64-back (F64.Value x) w = refl
@@ -99,6 +85,4 @@ f64-back (F64.NotANumber b) w = refl
 f64-back (F64.Refused e) w = back-refused double F64.Refused e w
 
 pub f64-determined : (r s : F64Read) → ofF64 r ≡ ofF64 s → r ≡ s
-f64-determined r s e =
-    ap (λ (p : F64 × Window). record { answer = p .0; next = p .1 })
-    (sym (f64-back (r .answer) (r .next)) ∙ ap (back double F64.Refused) e ∙ f64-back (s .answer) (s .next))
+f64-determined r s e = ap (λ (p : F64 × Window). record { answer = p .0; next = p .1 }) (both-determined double F64.Refused f64Answer f64-back e)

@@ -55,6 +55,9 @@ module _ {A E : Type 0} (val : A → E) (ref : BitError → E) where
   pub back-refused : (e : BitError) (w : Window) → back (refused (paper e) w) ≡ (ref e, w)
   back-refused e w = ap (λ (x : BitError). (ref x, w)) (unpaper-paper e)
 
+  pub both-determined : (of : E → Window → Answer A) → ((a : E) (w : Window) → back (of a w) ≡ (a, w)) → {a b : E} {u v : Window} → of a u ≡ of b v → _≡_ {A = E × Window} (a, u) (b, v)
+  both-determined of h {a} {b} {u} {v} e = sym (h a u) ∙ ap back e ∙ h b v
+
 abbrev plain : Unit {0} → Done
 plain u = Done.Value
 
@@ -63,18 +66,14 @@ done-back Done.Value w = refl
 done-back (Done.Refused e) w = back-refused plain Done.Refused e w
 
 pub done-determined : (r s : DoneRead) → ofDone r ≡ ofDone s → r ≡ s
-done-determined r s e =
-    ap (λ (p : Done × Window). record { answer = p .0; next = p .1 })
-    (sym (done-back (r .answer) (r .next)) ∙ ap (back plain Done.Refused) e ∙ done-back (s .answer) (s .next))
+done-determined r s e = ap (λ (p : Done × Window). record { answer = p .0; next = p .1 }) (both-determined plain Done.Refused doneAnswer done-back e)
 
 sub-back : (a : Opened) (w : Window) → back Opened.Value Opened.Refused (subAnswer a w) ≡ (a, w)
 sub-back (Opened.Value v) w = refl
 sub-back (Opened.Refused e) w = back-refused Opened.Value Opened.Refused e w
 
 pub sub-determined : (r s : SubRead) → ofSub r ≡ ofSub s → r ≡ s
-sub-determined r s e =
-    ap (λ (p : Opened × Window). record { answer = p .0; next = p .1 })
-    (sym (sub-back (r .answer) (r .next)) ∙ ap (back Opened.Value Opened.Refused) e ∙ sub-back (s .answer) (s .next))
+sub-determined r s e = ap (λ (p : Opened × Window). record { answer = p .0; next = p .1 }) (both-determined Opened.Value Opened.Refused subAnswer sub-back e)
 
 -- the same of the calls that have no reader
 module _ {A E : Type 0} (val : A → E) (ref : BitError → E) where

@@ -1,7 +1,6 @@
 -- A refused copy writes nothing; any other has the room and the bits that `copy_bits` asks for.
 use native.Mathlib.Omega.{arith}
 use lib.ListN.{length}
-use Prim.Native.Nat.{_+_}
 use borrow.Author.Needs.{needs}
 use Rattle.bitio.proofs.CopyTests.{Copyable, copyable, nothing-left, copy-left}
 use Rattle.bitio.proofs.copies.copy_bits_to.Statement.{statement}
@@ -9,10 +8,7 @@ use Rattle.bitio.proofs.copies.copy_bits_to.Tie as tie
 
 -- where the copy is judged fit
 fit : (c : tie.After-enum-told2) → Copyable (c .before .before .before .before .before .args .bytes .now) (c .before .before .before .before .before .args .w) (length (c .before .before .before .before .before .args .target .now)) (c .before .before .before .before .before .args .count)
-fit c =
-    let a = c .before .before .before .before .before .args in
-    copyable (a .bytes .now) (a .w) (length (a .target .now)) (a .count) (c .before .before .judge .result .answer) (c .before .before .judge .result .next) (c .before .before .judge .ensures)
-    (c .enum-told2 .given .1)
+fit c = copyable _ _ _ _ _ _ (c .before .before .judge .ensures) (c .enum-told2 .given .1)
 
 add-copy-bits : tie.Need-add-copy-bits
 add-copy-bits c = let f = fit (c .before .before .before .before .before .before) in omega (arith, f .window, c .before .before .before .before .before .before .before .before .before .before .before .good)
@@ -23,19 +19,11 @@ copy-bits-requires c κs =
     (omega (arith, f .window, f .there), omega (arith, f .target), f .window .data-fits, c .before .before .before .before .table .ensures)
 
 returns : tie.Need-returns
-returns c =
-    let a = c .before .before .before .before .before .args in (
-      c .before .before .judge .ensures,
-      nothing-left (a .target .now) (a .bytes .now) (a .w .start .0 + a .w .position .0) (a .count) (c .before .before .judge .result .next) (c .enum-told .given .1),
-    )
+returns c = (c .before .before .judge .ensures, nothing-left _ _ _ _ _ (c .enum-told .given .1))
 
 returns-2 : tie.Need-returns-2
 returns-2 c =
-    let a = c .before .before .before .before .before .before .before .before .before .before .before .before .before .before .before .args in (
-      c .before .before .before .before .before .before .before .before .before .before .before .before .judge .ensures,
-      copy-left (a .target .now) (a .bytes .now) (a .w .start .0 + a .w .position .0) (a .count) (c .before .before .before .before .before .before .before .before .before .before .before .before .judge .result .next) (c .before .before .copy-bits .ensures)
-          (c .before .before .before .before .before .before .before .before .before .before .enum-told2 .given .1),
-    )
+    (c .before .before .before .before .before .before .before .before .before .before .before .before .judge .ensures, copy-left _ _ _ _ _ (c .before .before .copy-bits .ensures) (c .before .before .before .before .before .before .before .before .before .before .enum-told2 .given .1))
 
 pub copy-bits-to-spec : {M : Type 1} → statement M
 copy-bits-to-spec =

@@ -13,17 +13,15 @@ use Rattle.bitio.proofs.reads.read_f32.Tie as tie
 returns : tie.Need-returns
 unfolding readF32
 returns c =
-    let s = c .before .before .before .before .before .before .before in
     let r = c .before .before .before .before .before .read-u32 in
     c .as-single .ensures (r .result .next)
-    ∙ made (readBits 32) (reading binary32) (s .args .bytes .now) (s .args .w) (ap (λ (x : U32). u32Answer x (r .result .next)) (sym (c .before .before .answer .given .1)) ∙ r .ensures)
+    ∙ made (readBits 32) (reading binary32) _ _ (ap (λ (x : U32). u32Answer x (r .result .next)) (sym (c .before .before .answer .given .1)) ∙ r .ensures)
 
 returns-2 : tie.Need-returns-2
 unfolding readF32
 returns-2 c =
-    let s = c .before .before .before .before .before .before in
     let r = c .before .before .before .before .read-u32 in
-    not-made (readBits 32) (reading binary32) (s .args .bytes .now) (s .args .w) (ap (λ (x : U32). u32Answer x (r .result .next)) (sym (c .before .answer2 .given .1)) ∙ r .ensures)
+    not-made (readBits 32) (reading binary32) _ _ (ap (λ (x : U32). u32Answer x (r .result .next)) (sym (c .before .answer2 .given .1)) ∙ r .ensures)
 
 pub read-f32-spec : {M : Type 1} → statement M
 read-f32-spec = tie.close (tie.spec (λ c κs. search needs) (λ c. search needs) (λ c κs. search needs) (λ c. search needs) returns returns-2)

@@ -13,17 +13,15 @@ use Rattle.bitio.proofs.reads.read_f64.Tie as tie
 returns : tie.Need-returns
 unfolding readF64
 returns c =
-    let s = c .before .before .before .before .before .before .before in
     let r = c .before .before .before .before .before .read-u64 in
     c .as-double .ensures (r .result .next)
-    ∙ made (readBits 64) (reading binary64) (s .args .bytes .now) (s .args .w) (ap (λ (x : U64). u64Answer x (r .result .next)) (sym (c .before .before .answer .given .1)) ∙ r .ensures)
+    ∙ made (readBits 64) (reading binary64) _ _ (ap (λ (x : U64). u64Answer x (r .result .next)) (sym (c .before .before .answer .given .1)) ∙ r .ensures)
 
 returns-2 : tie.Need-returns-2
 unfolding readF64
 returns-2 c =
-    let s = c .before .before .before .before .before .before in
     let r = c .before .before .before .before .read-u64 in
-    not-made (readBits 64) (reading binary64) (s .args .bytes .now) (s .args .w) (ap (λ (x : U64). u64Answer x (r .result .next)) (sym (c .before .answer2 .given .1)) ∙ r .ensures)
+    not-made (readBits 64) (reading binary64) _ _ (ap (λ (x : U64). u64Answer x (r .result .next)) (sym (c .before .answer2 .given .1)) ∙ r .ensures)
 
 pub read-f64-spec : {M : Type 1} → statement M
 read-f64-spec = tie.close (tie.spec (λ c κs. search needs) (λ c. search needs) (λ c κs. search needs) (λ c. search needs) returns returns-2)

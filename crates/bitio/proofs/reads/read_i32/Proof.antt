@@ -16,17 +16,15 @@ use Rattle.bitio.proofs.reads.read_i32.Tie as tie
 returns : tie.Need-returns
 unfolding readI32
 returns c =
-    let s = c .before .before .before .before .before .before .before in
     let r = c .before .before .before .before .before .read-u32 in
     ap (λ (z : ℤ). got z (r .result .next)) (toZ-ofZ w32 _ (record { sfits = c .of-word .ok }) ∙ c .of-word .ensures)
-    ∙ made (readBits 32) signed (s .args .bytes .now) (s .args .w) (ap (λ (x : U32). u32Answer x (r .result .next)) (sym (c .before .before .answer .given .1)) ∙ r .ensures)
+    ∙ made (readBits 32) signed _ _ (ap (λ (x : U32). u32Answer x (r .result .next)) (sym (c .before .before .answer .given .1)) ∙ r .ensures)
 
 returns-2 : tie.Need-returns-2
 unfolding readI32
 returns-2 c =
-    let s = c .before .before .before .before .before .before in
     let r = c .before .before .before .before .read-u32 in
-    not-made (readBits 32) signed (s .args .bytes .now) (s .args .w) (ap (λ (x : U32). u32Answer x (r .result .next)) (sym (c .before .answer2 .given .1)) ∙ r .ensures)
+    not-made (readBits 32) signed _ _ (ap (λ (x : U32). u32Answer x (r .result .next)) (sym (c .before .answer2 .given .1)) ∙ r .ensures)
 
 pub read-i32-spec : {M : Type 1} → statement M
 read-i32-spec = tie.close (tie.spec (λ c κs. search needs) (λ c. search needs) (λ c κs. search needs) (λ c. search needs) returns returns-2)

@@ -8,11 +8,11 @@ use Rattle.cursor.proofs.windows.skip_remaining.Tie as tie
 
 returns : tie.Need-returns
 unfolding skipRemaining
-returns c = stopped (c .before .before .before .before .before .args .bytes .now) (c .before .before .before .before .before .args .w) (c .before .before .before .test .ensures) ended (c .before .e .given .1)
+returns c = stopped _ _ (c .before .before .before .test .ensures) _ (c .before .e .given .1)
 
 returns-2 : tie.Need-returns-2
 unfolding skipRemaining ended
-returns-2 c = sym (went-on (c .before .before .before .before .before .args .bytes .now) (c .before .before .before .before .before .args .w) (c .before .before .before .test .ensures) ended (c .before .enum-told .given .1))
+returns-2 c = sym (went-on _ _ (c .before .before .before .test .ensures) _ (c .before .enum-told .given .1))
 
 pub skip-remaining-spec : {M : Type 1} → statement M
 skip-remaining-spec = tie.close (tie.spec (λ c κs. search needs) (λ c. search needs) (λ c. search needs) returns returns-2)

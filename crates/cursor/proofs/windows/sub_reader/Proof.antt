@@ -2,25 +2,23 @@
 use mathlib.Core.Path.{sym, _∙_}
 use native.Mathlib.Omega.{arith}
 use borrow.Author.Needs.{needs}
-use Rattle.window.specs.Windows.{sub, subReader}
+use Rattle.window.specs.Windows.{subReader}
 use Rattle.cursor.proofs.Tests.{stopped, went-on, tested}
 use Rattle.cursor.proofs.windows.sub_reader.Statement.{statement}
 use Rattle.cursor.proofs.windows.sub_reader.Tie as tie
 
 returns : tie.Need-returns
 unfolding subReader
-returns c = stopped (c .before .before .before .before .before .args .bytes .now) (c .before .before .before .before .before .args .w) (c .before .before .before .test .ensures) (sub (c .before .before .before .before .before .args .count)) (c .before .e .given .1)
+returns c = stopped _ _ (c .before .before .before .test .ensures) _ (c .before .e .given .1)
 
 sub-requires : tie.Need-sub-requires
 sub-requires c κs =
-    let s = tested (c .before .before .before .before .args .bytes .now) (c .before .before .before .before .args .w) (c .before .before .test .ensures) (c .enum-told .given .1) in
+    let s = tested _ _ (c .before .before .test .ensures) (c .enum-told .given .1) in
     (s .cursor-fits, omega (arith, s, c .before .before .before .before .good))
 
 returns-2 : tie.Need-returns-2
 unfolding subReader
-returns-2 c =
-    let a = c .before .before .before .before .before .args in
-    c .sub .ensures (a .bytes .now) ∙ sym (went-on (a .bytes .now) (a .w) (c .before .before .before .test .ensures) (sub (a .count)) (c .before .enum-told .given .1))
+returns-2 c = c .sub .ensures _ ∙ sym (went-on _ _ (c .before .before .before .test .ensures) _ (c .before .enum-told .given .1))
 
 pub sub-reader-spec : {M : Type 1} → statement M
 sub-reader-spec = tie.close (tie.spec (λ c κs. search needs) (λ c. search needs) (λ c. search needs) sub-requires returns returns-2)
