@@ -7,8 +7,8 @@ use Rattle.held.specs.Calls.{Reply}
 use Rattle.bunch.specs.declared.Added.{Added}
 use Rattle.bunch.specs.declared.Taken.{Taken}
 use Rattle.bunch.specs.Answers.{ofTaken, ofAdded}
-use Rattle.exports_bunch.specs.Handed.{handedWords}
-use Rattle.exports_bunch.specs.Fragments.{fragmentWords}
+use Rattle.bunch_words.specs.Handed.{handedWords}
+use Rattle.bunch_words.specs.Fragments.{fragmentWords}
 
 pub told-taken : (x : Taken) {m : Memory} {o : List ℕ} {y : Reply} {r : List ℕ} → ofTaken x m o ≡ y → ((k : Memory) → (p : List ℕ) → r ≡ handedWords (ofTaken x k p)) → (r ≡ handedWords y) × ((m ≡ y .memory) × (o ≡ y .output))
 told-taken x {m = m} {o = o} e f = (f m o ∙ ap handedWords e, (ap (λ (z : Reply). z .memory) e, ap (λ (z : Reply). z .output) e))

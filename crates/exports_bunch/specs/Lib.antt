@@ -1,4 +1,2 @@
-pub mod Handed
 pub mod Opening
 pub mod Drained
-pub mod Fragments

@@ -3,7 +3,7 @@ ghost use mathlib.Core.Path.{_≡_};
 ghost use Rattle.held.specs.Memory.{memory};
 ghost use Rattle.draining.specs.Draining.{drained};
 ghost use Rattle.exports_bunch.specs.Drained.{shownBytes, drainedWords};
-use crate::taken::said;
+use bunch_words::taken::said;
 use draining::Drain;
 use draining::Listed;
 use draining::drains;

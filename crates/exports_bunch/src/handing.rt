@@ -3,10 +3,10 @@ ghost use mathlib.Core.Path.{_≡_};
 ghost use Rattle.held.specs.Memory.{memory};
 ghost use Rattle.held.specs.Steps.{taking, retiring};
 ghost use Rattle.held.specs.Calls.{called};
-ghost use Rattle.exports_bunch.specs.Handed.{handedWords};
-use crate::taken;
-use crate::taken::HandedWords;
+ghost use Rattle.bunch_words.specs.Handed.{handedWords};
 use bunch::calls;
+use bunch_words::taken;
+use bunch_words::taken::HandedWords;
 use held::Accumulator;
 use places::Place;
 

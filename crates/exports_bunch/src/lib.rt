@@ -1,7 +1,5 @@
-// The accumulator's calls for C and Rust: their answers as words (specs/).
+// The accumulator's calls for C and Rust: they write their answers as words.
 pub mod adding;
 pub mod drains;
-pub mod fragments;
 pub mod handing;
 pub mod opening;
-pub mod taken;

@@ -2,7 +2,7 @@
 use Rattle.held.specs.declared.Accumulator.{Accumulator}
 use Rattle.held.specs.Memory.{memory}
 use Rattle.held.specs.Steps.{adding}
-use Rattle.exports_bunch.specs.Fragments.{fragmentWords}
+use Rattle.bunch_words.specs.Fragments.{fragmentWords}
 use Rattle.chains.proofs.Timed.{timed}
 use borrow.Author.Needs.{needs}
 use Rattle.chains.proofs.inner.timing_add_fragment.Statement.{statement}

@@ -2,7 +2,7 @@
 use Rattle.held.specs.declared.Accumulator.{Accumulator}
 use Rattle.held.specs.Memory.{memory}
 use Rattle.held.specs.Steps.{taking, locally, local}
-use Rattle.exports_bunch.specs.Handed.{handedWords}
+use Rattle.bunch_words.specs.Handed.{handedWords}
 use Rattle.chains.proofs.Timed.{timed}
 use borrow.Author.Needs.{needs}
 use Rattle.chains.proofs.inner.timing_take_completed.Statement.{statement}

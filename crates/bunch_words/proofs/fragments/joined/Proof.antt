@@ -4,10 +4,10 @@ use mathlib.Core.List.{List, _∷_}
 use Prim.Native.Nat.{ℕ}
 use lib.ListN.{length}
 use Rattle.held.proofs.Words.{wordsFrom}
-use Rattle.exports_bunch.proofs.Joining.{joined-words}
+use Rattle.bunch_words.proofs.Joining.{joined-words}
 use borrow.Author.Needs.{needs}
-use Rattle.exports_bunch.proofs.fragments.joined.Statement.{statement}
-use Rattle.exports_bunch.proofs.fragments.joined.Tie as tie
+use Rattle.bunch_words.proofs.fragments.joined.Statement.{statement}
+use Rattle.bunch_words.proofs.fragments.joined.Tie as tie
 
 returns : tie.Need-returns
 unfolding wordsFrom

@@ -1,8 +1,8 @@
 -- Word by word; the header and the cause by their own functions.
 use mathlib.Core.Path.{refl}
 use borrow.Author.Needs.{needs}
-use Rattle.exports_bunch.proofs.fragments.of_displaced.Statement.{statement}
-use Rattle.exports_bunch.proofs.fragments.of_displaced.Tie as tie
+use Rattle.bunch_words.proofs.fragments.of_displaced.Statement.{statement}
+use Rattle.bunch_words.proofs.fragments.of_displaced.Tie as tie
 
 returns : tie.Need-returns
 returns c = rw (c .before .before .of-header .ensures, c .before .cause-word .ensures, c .cause-value .ensures) refl

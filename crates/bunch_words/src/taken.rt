@@ -6,7 +6,7 @@ ghost use lib.ListN.{getD};
 ghost use Rattle.held.specs.Memory.{Memory};
 ghost use Rattle.held.specs.Refusals.{errorPaper};
 ghost use Rattle.bunch.specs.Answers.{ofTaken};
-ghost use Rattle.exports_bunch.specs.Handed.{handedWords};
+ghost use Rattle.bunch_words.specs.Handed.{handedWords};
 use bunch::Taken;
 use held::BunchError;
 use taking::Handed;

@@ -1,8 +1,8 @@
 -- Word by word; the header, the limit and the kind by their own functions.
 use mathlib.Core.Path.{refl}
 use borrow.Author.Needs.{needs}
-use Rattle.exports_bunch.proofs.fragments.of_result.Statement.{statement}
-use Rattle.exports_bunch.proofs.fragments.of_result.Tie as tie
+use Rattle.bunch_words.proofs.fragments.of_result.Statement.{statement}
+use Rattle.bunch_words.proofs.fragments.of_result.Tie as tie
 
 returns : tie.Need-returns
 returns c = rw (c .before .before .before .before .of-header .ensures, c .before .before .before .limit .ensures, c .before .before .kind .ensures) refl

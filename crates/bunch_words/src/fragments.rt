@@ -6,7 +6,7 @@ ghost use Rattle.words.specs.Words.{kindWord};
 ghost use Rattle.held.specs.Memory.{Memory};
 ghost use Rattle.joining.specs.Answers.{toldBy};
 ghost use Rattle.bunch.specs.Answers.{ofAdded};
-ghost use Rattle.exports_bunch.specs.Fragments.{limitWord, causeWord, causeValue, resultWords, displacedWords, fragmentWords};
+ghost use Rattle.bunch_words.specs.Fragments.{limitWord, causeWord, causeValue, resultWords, displacedWords, fragmentWords};
 use crate::taken::Numbers;
 use crate::taken::said;
 use bunch::Added;

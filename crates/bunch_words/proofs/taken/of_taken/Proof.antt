@@ -1,9 +1,9 @@
 -- Each case, by what the match told.
 use mathlib.Core.Path.{refl}
-use Rattle.exports_bunch.specs.Handed.{handedWords}
+use Rattle.bunch_words.specs.Handed.{handedWords}
 use borrow.Author.Needs.{needs}
-use Rattle.exports_bunch.proofs.taken.of_taken.Statement.{statement}
-use Rattle.exports_bunch.proofs.taken.of_taken.Tie as tie
+use Rattle.bunch_words.proofs.taken.of_taken.Statement.{statement}
+use Rattle.bunch_words.proofs.taken.of_taken.Tie as tie
 
 returns : tie.Need-returns
 unfolding handedWords

@@ -2,8 +2,8 @@
 use mathlib.Core.Path.{refl}
 use borrow.Author.Needs.{needs}
 use Rattle.window.specs.Refusals.{unfit, unsound, payloadTooLong, payloadShort, outputShort, tooFewPlaces}
-use Rattle.exports_bunch.proofs.taken.said.Statement.{statement}
-use Rattle.exports_bunch.proofs.taken.said.Tie as tie
+use Rattle.bunch_words.proofs.taken.said.Statement.{statement}
+use Rattle.bunch_words.proofs.taken.said.Tie as tie
 
 returns : tie.Need-returns
 unfolding unfit

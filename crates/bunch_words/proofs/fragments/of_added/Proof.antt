@@ -1,8 +1,8 @@
 -- Each case, by what the matches told.
-use Rattle.exports_bunch.specs.Fragments.{fragmentWords}
+use Rattle.bunch_words.specs.Fragments.{fragmentWords}
 use borrow.Author.Needs.{needs}
-use Rattle.exports_bunch.proofs.fragments.of_added.Statement.{statement}
-use Rattle.exports_bunch.proofs.fragments.of_added.Tie as tie
+use Rattle.bunch_words.proofs.fragments.of_added.Statement.{statement}
+use Rattle.bunch_words.proofs.fragments.of_added.Tie as tie
 
 returns : tie.Need-returns
 unfolding fragmentWords

@@ -8,7 +8,7 @@ use Rattle.judging.specs.declared.PartialDiscardCause.{PartialDiscardCause}
 use Rattle.judging.specs.declared.PartialBunchResult.{PartialBunchResult}
 use Rattle.held.specs.Steps.{Told, Answer, refused, judged, handed, nothing}
 use Rattle.held.specs.Calls.{Reply}
-use Rattle.exports_bunch.specs.Handed.{saidWords}
+use Rattle.bunch_words.specs.Handed.{saidWords}
 
 abbrev pub limitWord : PartialResourceLimit → ℕ
 limitWord PartialResourceLimit.None = 0
