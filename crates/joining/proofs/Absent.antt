@@ -10,6 +10,7 @@ use Rattle.tables.specs.declared.Slot.{Slot}
 use Rattle.tables.specs.Tables.{none, slotOf}
 use Rattle.places.specs.Bytes.{pasted, bytesOf, payloadBytes}
 use Rattle.places.proofs.Payloads.{length-payload}
+use Rattle.judging.specs.declared.PartialBunchResult.{PartialBunchResult}
 use Rattle.judging.specs.Held.{Fragment}
 use Rattle.judging.specs.Fates.{sequenceWord, overlaps, fate}
 use Rattle.judging.specs.Headers.{afterTest}
@@ -30,7 +31,9 @@ use Rattle.adding.specs.declared.inner.Weighed.{Weighed}
 use Rattle.adding.specs.Adding.{leftBy, Lacks}
 use Rattle.adding.proofs.Judging.{full-free, over-free, new-kept}
 use Rattle.joining.specs.declared.inner.Outcome.{Outcome}
+use Rattle.joining.specs.declared.inner.Meeting.{Meeting}
 use Rattle.joining.specs.Answers.{ofJudged, outcome}
+use Rattle.joining.specs.Meetings.{MeetsNothing, Weighs}
 use Rattle.joining.proofs.There.{at-most}
 use Rattle.joining.proofs.Joining as J
 
@@ -42,23 +45,28 @@ parts false true bits payload = refl
 parts false false bits payload = refl
 
 module _ (a : Accumulator) (m : Memory) (used : ℕ) (u : Using a m used) (c i : ℕ) (slot : slotOf c (take (a .active) (m .channels)) ≡ Slot.Free i)
-    (f : Fragment) (small : f .bits ≤ 16383) (enough : bytesOf (f .bits) ≤ length (f .payload)) (w : Weighed)
-    (x-is : w .fate ≡ fate (leb (a .«max_active») (a .active)) (ltb (a .«max_buffered_bits») (a .«total_buffered_bits» + f .bits)) none (f .header) (f .bits))
-    (effect-is : w .effect ≡ effectOf (w .fate) (f .header .«b_partial_initial») (eqb (f .bits) 0)) (payload-is : w .payload ≡ cond (w .effect .«shows_payload») (f .bits) 0) where
+    (f : Fragment) (small : f .bits ≤ 16383) (enough : bytesOf (f .bits) ≤ length (f .payload)) (met : Meeting) (meets : MeetsNothing a (f .bits) met)
+    (w : Weighed) (answered : PartialBunchResult) (weighs : Weighs met (f .header) (f .bits) w answered) where
   abbrev room : Bool
   room = leb (a .«max_active») (a .active)
 
   abbrev much : Bool
   much = ltb (a .«max_buffered_bits») (a .«total_buffered_bits» + f .bits)
 
+  x-is : w .fate ≡ fate room much none (f .header) (f .bits)
+  x-is = weighs .fate-is [] [] ∙ rw (meets .full-is, meets .over-is, meets .standing-is) refl
+
+  pub result-none : answered ≡ result (w .fate) none f
+  result-none = weighs .result-is [] [] (f .payload) ∙ rw (meets .standing-is) refl
+
   pub few-shown : w .payload ≤ f .bits
-  few-shown = rw payload-is (at-most (w .effect .«shows_payload») (f .bits))
+  few-shown = rw (weighs .payload-is) (at-most (w .effect .«shows_payload») (f .bits))
 
   abbrev bytes : List ℕ
   bytes = payloadBytes (w .payload) (f .payload)
 
   bytes-are : bytes ≡ shown (w .effect) none f
-  bytes-are = rw payload-is (parts (w .effect .«shows_held») (w .effect .«shows_payload») (f .bits) (f .payload))
+  bytes-are = rw (weighs .payload-is) (parts (w .effect .«shows_held») (w .effect .«shows_payload») (f .bits) (f .payload))
 
   bytes-long : length bytes ≡ bytesOf (w .payload)
   bytes-long = length-payload (w .payload) (f .payload) (omega (arith, few-shown, enough))
@@ -66,11 +74,11 @@ module _ (a : Accumulator) (m : Memory) (used : ℕ) (u : Using a m used) (c i :
   pub gives-short : (output : List ℕ) (n : ℕ) {r : Outcome} → n ≡ bytesOf (w .payload) → length output < n → r ≡ outcome (BunchError.OutputShort n) a used
       → Gives a m c (local (limitsOf a) (heldBy a m) c (adding f) output) (ofJudged (r .answer)) (r .left) m output
   gives-short output n e h is =
-      J.gives-short a m used u c f output small enough none (get-none a m (u .stands) c i slot) room much (λ t. refl) (full-free a m used u c i f slot) (over-free a m used u c i f slot) (w .fate) x-is (w .effect) effect-is n (e ∙ sym bytes-long ∙ ap length bytes-are) h (free-same a m used u c i slot) is
+      J.gives-short a m used u c f output small enough none (get-none a m (u .stands) c i slot) room much (λ t. refl) (full-free a m used u c i f slot) (over-free a m used u c i f slot) (w .fate) x-is (w .effect) (weighs .effect-is) n (e ∙ sym bytes-long ∙ ap length bytes-are) h (free-same a m used u c i slot) is
 
   module _ (sequence : ℕ) (sequence-is : (sequence ≡ sequenceWord (f .header)) × (sequence < 2 ^ 32)) (start : ℕ) (start-is : start ≡ sizeAll (take i (m .places))) where
     met-is : w .effect ≡ effectOn (fate room much none (f .header) (f .bits)) f
-    met-is = effect-is ∙ rw x-is refl
+    met-is = weighs .effect-is ∙ rw x-is refl
 
     pub lacks : Lacks a m used c i start (w .effect) (f .header) sequence (f .bits) (f .payload)
     lacks =
@@ -87,4 +95,4 @@ module _ (a : Accumulator) (m : Memory) (used : ℕ) (u : Using a m used) (c i :
         → Gives a m c (local (limitsOf a) (heldBy a m) c (adding f) output) told r after out
     unfolding afterTest overlaps
     gives-judged output fits shows told-is lays =
-        J.gives-judged a m used u c f output small enough none (get-none a m (u .stands) c i slot) room much (λ t. refl) (full-free a m used u c i f slot) (over-free a m used u c i f slot) (w .fate) x-is (w .effect) effect-is bytes bytes-are (omega (arith, bytes-long, fits)) shows told-is (lacks .kept) lays
+        J.gives-judged a m used u c f output small enough none (get-none a m (u .stands) c i slot) room much (λ t. refl) (full-free a m used u c i f slot) (over-free a m used u c i f slot) (w .fate) x-is (w .effect) (weighs .effect-is) bytes bytes-are (omega (arith, bytes-long, fits)) shows told-is (lacks .kept) lays

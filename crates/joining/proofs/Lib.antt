@@ -1,3 +1,4 @@
 pub mod Joining
 pub mod There
 pub mod Absent
+pub mod Meetings

@@ -12,6 +12,7 @@ use Rattle.tables.specs.Tables.{found, slotOf}
 use Rattle.places.specs.Bytes.{pasted, part, bytesOf, payloadBytes}
 use Rattle.places.proofs.Pastes.{length-part}
 use Rattle.places.proofs.Payloads.{length-payload}
+use Rattle.judging.specs.declared.PartialBunchResult.{PartialBunchResult}
 use Rattle.judging.specs.declared.Standing.{Standing}
 use Rattle.judging.specs.Held.{Held, Fragment}
 use Rattle.judging.specs.Fates.{sequenceWord, fate}
@@ -38,7 +39,9 @@ use Rattle.adding.specs.declared.inner.Weighed.{Weighed}
 use Rattle.adding.specs.Adding.{heldIn, leftBy, Holds}
 use Rattle.adding.proofs.Judging.{not-full, over-there, stays-kept}
 use Rattle.joining.specs.declared.inner.Outcome.{Outcome}
+use Rattle.joining.specs.declared.inner.Meeting.{Meeting}
 use Rattle.joining.specs.Answers.{ofJudged, outcome}
+use Rattle.joining.specs.Meetings.{Meetable, MeetsHeld, Weighs}
 use Rattle.joining.proofs.Joining as J
 
 pub at-most : (b : Bool) (n : ℕ) → cond b n 0 ≤ n
@@ -70,30 +73,39 @@ module _ (a : Accumulator) (m : Memory) (used : ℕ) (u : Using a m used) (c i :
   unfolding heldAt
   word-fits = good-held c (heldBy a m) (get-there a m (u .stands) c i slot) (kept a m (u .stands) .good) .sequence-word
 
-  module _ (f : Fragment) (small : f .bits ≤ 16383) (enough : bytesOf (f .bits) ≤ length (f .payload)) (standing : Standing) (standing-is : (bytes : List ℕ) → heldOf standing (drop 4 p) bytes ≡ found (heldAt p bytes))
-      (joins : ℕ) (joins-is : joins ≡ cond (f .header .«b_partial_initial») 0 (bitsOf p)) (w : Weighed)
-      (fate-is : (words bytes : List ℕ) → w .fate ≡ fate false (ltb (a .«max_buffered_bits») (a .«total_buffered_bits» - bitsOf p + (joins + f .bits))) (heldOf standing words bytes) (f .header) (f .bits))
-      (effect-is : w .effect ≡ effectOf (w .fate) (f .header .«b_partial_initial») (eqb (f .bits) 0))
-      (held-is : w .held ≡ cond (w .effect .«shows_held») (sizeOf p) 0) (payload-is : w .payload ≡ cond (w .effect .«shows_payload») (f .bits) 0) where
+  pub meetable : (bits : ℕ) → bits ≤ 16383 → Meetable a (m .places) (Slot.At i) bits
+  meetable bits small = let g = spot a m used u c i slot in (omega (arith, g), word-fits, omega (arith, g), omega (arith, g), small)
+
+  module _ (f : Fragment) (small : f .bits ≤ 16383) (enough : bytesOf (f .bits) ≤ length (f .payload)) (met : Meeting) (meets : MeetsHeld a p (f .header .«b_partial_initial») (f .bits) met)
+      (w : Weighed) (answered : PartialBunchResult) (weighs : Weighs met (f .header) (f .bits) w answered) where
+    abbrev joins : ℕ
+    joins = cond (f .header .«b_partial_initial») 0 (bitsOf p)
+
+    abbrev standing : Standing
+    standing = met .standing
+
     abbrev much : Bool
     much = ltb (a .«max_buffered_bits») (a .«total_buffered_bits» - bitsOf p + (joins + f .bits))
 
     much-is : much ≡ over (limitsOf a) (heldBy a m) c (adding f)
     unfolding heldAt
-    much-is = rw (joins-is, joins-as (f .header .«b_partial_initial») old) (over-there a m used u c i f slot)
+    much-is = rw (joins-as (f .header .«b_partial_initial») old) (over-there a m used u c i f slot)
 
     x-is : w .fate ≡ fate false much (found old) (f .header) (f .bits)
-    x-is = fate-is (drop 4 p) (part from (sizeOf p) (m .arena)) ∙ rw (standing-is (part from (sizeOf p) (m .arena))) refl
+    x-is = weighs .fate-is (drop 4 p) (part from (sizeOf p) (m .arena)) ∙ rw (meets .full-is, meets .over-is, meets .standing-is (part from (sizeOf p) (m .arena))) refl
+
+    held-is : w .held ≡ cond (w .effect .«shows_held») (sizeOf p) 0
+    held-is = weighs .held-is ∙ rw (meets .held-is) refl
 
     pub few-shown : (w .payload ≤ f .bits) × (w .held ≤ sizeOf p)
-    few-shown = (rw payload-is (at-most (w .effect .«shows_payload») (f .bits)), rw held-is (at-most (w .effect .«shows_held») (sizeOf p)))
+    few-shown = (rw (weighs .payload-is) (at-most (w .effect .«shows_payload») (f .bits)), rw held-is (at-most (w .effect .«shows_held») (sizeOf p)))
 
     abbrev bytes : List ℕ
     bytes = part from (w .held) (m .arena) ++ payloadBytes (w .payload) (f .payload)
 
     bytes-are : bytes ≡ shown (w .effect) (found old) f
     unfolding heldAt
-    bytes-are = rw (held-is, payload-is) (J.shown-parts (w .effect .«shows_held») (w .effect .«shows_payload») from (sizeOf p) (m .arena) (f .bits) (f .payload))
+    bytes-are = rw (held-is, weighs .payload-is) (J.shown-parts (w .effect .«shows_held») (w .effect .«shows_payload») from (sizeOf p) (m .arena) (f .bits) (f .payload))
 
     bytes-long : length bytes ≡ w .held + bytesOf (w .payload)
     bytes-long =
@@ -104,15 +116,15 @@ module _ (a : Accumulator) (m : Memory) (used : ℕ) (u : Using a m used) (c i :
     pub gives-short : (output : List ℕ) (n : ℕ) {r : Outcome} → n ≡ w .held + bytesOf (w .payload) → length output < n → r ≡ outcome (BunchError.OutputShort n) a used
         → Gives a m c (local (limitsOf a) (heldBy a m) c (adding f) output) (ofJudged (r .answer)) (r .left) m output
     gives-short output n e h is =
-        J.gives-short a m used u c f output small enough (found old) (get-there a m (u .stands) c i slot) false much (λ t. cc) (not-full a m used u c i f slot) much-is (w .fate) x-is (w .effect) effect-is n (e ∙ sym bytes-long ∙ ap length bytes-are) h (at-same a m used u c i slot) is
+        J.gives-short a m used u c f output small enough (found old) (get-there a m (u .stands) c i slot) false much (λ t. cc) (not-full a m used u c i f slot) much-is (w .fate) x-is (w .effect) (weighs .effect-is) n (e ∙ sym bytes-long ∙ ap length bytes-are) h (at-same a m used u c i slot) is
 
     module _ (h : RawBunchHeader) (h-is : (words bytes : List ℕ) → h ≡ afterTest (heldOf standing words bytes) (f .header)) (sequence : ℕ) (sequence-is : (sequence ≡ sequenceWord h) × (sequence < 2 ^ 32))
         (start : ℕ) (start-is : start ≡ from) where
       h-old : h ≡ afterTest (found old) (f .header)
-      h-old = h-is (drop 4 p) (part from (sizeOf p) (m .arena)) ∙ rw (standing-is (part from (sizeOf p) (m .arena))) refl
+      h-old = h-is (drop 4 p) (part from (sizeOf p) (m .arena)) ∙ rw (meets .standing-is (part from (sizeOf p) (m .arena))) refl
 
       met-is : w .effect ≡ effectOn (fate false much (found old) (f .header) (f .bits)) f
-      met-is = effect-is ∙ rw x-is refl
+      met-is = weighs .effect-is ∙ rw x-is refl
 
       pub holds : Holds a m used c i start (w .effect) h sequence (f .bits) (f .payload)
       holds =
@@ -130,6 +142,6 @@ module _ (a : Accumulator) (m : Memory) (used : ℕ) (u : Using a m used) (c i :
           → Lays a m (holding c (leftBy (w .effect) (found (heldIn i start m)) h (f .bits) (f .payload)) (heldBy a m)) r after
           → Gives a m c (local (limitsOf a) (heldBy a m) c (adding f) output) told r after out
       gives-judged output fits shows told-is lays =
-          J.gives-judged a m used u c f output small enough (found old) (get-there a m (u .stands) c i slot) false much (λ t. cc) (not-full a m used u c i f slot) much-is (w .fate) x-is (w .effect) effect-is bytes bytes-are (omega (arith, bytes-long, fits)) (rw start-is at shows)
-          (told-is (part from (sizeOf p) (m .arena)) (f .payload) ∙ rw (standing-is (part from (sizeOf p) (m .arena))) refl)
+          J.gives-judged a m used u c f output small enough (found old) (get-there a m (u .stands) c i slot) false much (λ t. cc) (not-full a m used u c i f slot) much-is (w .fate) x-is (w .effect) (weighs .effect-is) bytes bytes-are (omega (arith, bytes-long, fits)) (rw start-is at shows)
+          (told-is (part from (sizeOf p) (m .arena)) (f .payload) ∙ rw (meets .standing-is (part from (sizeOf p) (m .arena))) refl)
           (rw (start-is, h-old) at (holds .kept)) (rw (start-is, h-old) at lays)

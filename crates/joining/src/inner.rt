@@ -17,7 +17,9 @@ ghost use Rattle.held.specs.Calls.{heldBy, limitsOf};
 ghost use Rattle.settling.specs.Settling.{Using};
 ghost use Rattle.settling.specs.Giving.{Gives};
 ghost use Rattle.joining.specs.Answers.{ofJudged, outcome};
+ghost use Rattle.joining.specs.Meetings.{MeetsHeld, MeetsNothing, Meets, Meetable, Weighs};
 use crate::Judged;
+use adding::inner::Weighed;
 use adding::inner::sequence_of;
 use adding::inner::settle_free;
 use adding::inner::settle_held;
@@ -30,6 +32,7 @@ use held::inner::start_of;
 use judging::Displacement;
 use judging::Effect;
 use judging::Fate;
+use judging::PartialBunchResult;
 use judging::Standing;
 use judging::headers::after_test;
 use places::Place;
@@ -86,12 +89,48 @@ fn kept(initial: bool, held: u64) -> u64
     if initial { 0 } else { held }
 }
 
-// To the channel's message at place i.
+// What a fragment meets: what its channel holds and with how many bits, and whether it passes a limit.
+pub struct Meeting {
+    pub standing: Standing,
+    pub held: u64,
+    pub full: bool,
+    pub over: bool,
+}
+
+fn meet(a: Accumulator, slot: Slot, places: &[Place], initial: bool, bits: u64) -> Meeting
+    requires { ⌜ Meetable a (now places) slot bits ⌝ }
+    ensures { λ r. ⌜ Meets a (now (places .entry)) slot initial bits r ⌝ }
+{
+    match slot {
+        Slot::At(i) => {
+            let p = places[i];
+            let held = p[0];
+            let joins = kept(initial, held);
+            Meeting {
+                standing: standing_of(p),
+                held,
+                full: false,
+                over: a.max_buffered_bits < a.total_buffered_bits - held + (joins + bits),
+            }
+        }
+        Slot::Free(_) => Meeting {
+            standing: Standing::Nothing,
+            held: 0,
+            full: a.max_active <= a.active,
+            over: a.max_buffered_bits < a.total_buffered_bits + bits,
+        },
+    }
+}
+
+// To the channel's message at place i: what it met there, how that was weighed, and the result.
 fn add_held(
     a: Accumulator,
     used: usize,
     ch_index: u32,
     i: usize,
+    met: Meeting,
+    w: Weighed,
+    answered: PartialBunchResult,
     header: RawBunchHeader,
     payload: &[u8],
     bits: u64,
@@ -100,15 +139,9 @@ fn add_held(
     arena: &mut [u8],
     output: &mut [u8],
 ) -> Outcome
-    requires { ⌜ Using a (memory (now channels) (now places) (now arena)) used × (slotOf «ch_index» (take (a .active) (now channels)) ≡ Slot.At i) × (bits ≤ 16383) × (bytesOf bits ≤ length (now payload)) ⌝ }
+    requires { ⌜ Using a (memory (now channels) (now places) (now arena)) used × (slotOf «ch_index» (take (a .active) (now channels)) ≡ Slot.At i) × (bits ≤ 16383) × (bytesOf bits ≤ length (now payload)) × MeetsHeld a (getD (now places) i []) (header .«b_partial_initial») bits met × Weighs met header bits w answered ⌝ }
     ensures { λ r. ⌜ Gives a (memory (now (channels .entry)) (now (places .entry)) (now (arena .entry))) «ch_index» (local (limitsOf a) (heldBy a (memory (now (channels .entry)) (now (places .entry)) (now (arena .entry)))) «ch_index» (adding (record { header = header; bits = bits; payload = now (payload .entry) })) (now (output .entry))) (ofJudged (r .answer)) (r .left) (memory (now (channels .exit)) (now (places .exit)) (now (arena .exit))) (now (output .exit)) ⌝ }
 {
-    let p = places[i];
-    let held = p[0];
-    let standing = standing_of(p);
-    let joins = kept(header.b_partial_initial, held);
-    let over = a.max_buffered_bits < a.total_buffered_bits - held + (joins + bits);
-    let w = weigh(false, over, standing, held, header, bits);
     let needed = w.held + bytes_of(w.payload);
     if output.len() < needed {
         return refuse(
@@ -119,12 +152,13 @@ fn add_held(
             used,
         );
     }
+    let standing = met.standing;
     let start = start_of(places, i);
-    let met = w.fate;
     let e = w.effect;
-    let gone = displaced_at(e, met, standing, places, i, header, bits);
+    let becomes = w.fate;
+    let gone = displaced_at(e, becomes, standing, places, i, header, bits);
     let answer = Judged::Result {
-        result: result(met, standing, header, bits),
+        result: answered,
         displaced: gone,
     };
     show(arena, start, w.held, payload, w.payload, output);
@@ -154,6 +188,9 @@ fn add_free(
     used: usize,
     ch_index: u32,
     i: usize,
+    met: Meeting,
+    w: Weighed,
+    answered: PartialBunchResult,
     header: RawBunchHeader,
     payload: &[u8],
     bits: u64,
@@ -162,13 +199,9 @@ fn add_free(
     arena: &mut [u8],
     output: &mut [u8],
 ) -> Outcome
-    requires { ⌜ Using a (memory (now channels) (now places) (now arena)) used × (slotOf «ch_index» (take (a .active) (now channels)) ≡ Slot.Free i) × (bits ≤ 16383) × (bytesOf bits ≤ length (now payload)) ⌝ }
+    requires { ⌜ Using a (memory (now channels) (now places) (now arena)) used × (slotOf «ch_index» (take (a .active) (now channels)) ≡ Slot.Free i) × (bits ≤ 16383) × (bytesOf bits ≤ length (now payload)) × MeetsNothing a bits met × Weighs met header bits w answered ⌝ }
     ensures { λ r. ⌜ Gives a (memory (now (channels .entry)) (now (places .entry)) (now (arena .entry))) «ch_index» (local (limitsOf a) (heldBy a (memory (now (channels .entry)) (now (places .entry)) (now (arena .entry)))) «ch_index» (adding (record { header = header; bits = bits; payload = now (payload .entry) })) (now (output .entry))) (ofJudged (r .answer)) (r .left) (memory (now (channels .exit)) (now (places .exit)) (now (arena .exit))) (now (output .exit)) ⌝ }
 {
-    let over = a.max_buffered_bits < a.total_buffered_bits + bits;
-    let full = a.max_active <= a.active;
-    let standing = Standing::Nothing;
-    let w = weigh(full, over, standing, 0, header, bits);
     let needed = bytes_of(w.payload);
     if output.len() < needed {
         return refuse(
@@ -179,11 +212,11 @@ fn add_free(
             used,
         );
     }
-    let met = w.fate;
+    let becomes = w.fate;
     let words: HeaderWords = [0; 20];
     let answer = Judged::Result {
-        result: result(met, standing, header, bits),
-        displaced: displaced(met, standing, words, header, bits),
+        result: answered,
+        displaced: displaced(becomes, Standing::Nothing, words, header, bits),
     };
     put_payload(payload, w.payload, output, 0);
     let start = start_of(places, i);
@@ -229,12 +262,21 @@ pub fn add_fragment(
     if payload.len() < bytes_of(bits) {
         return refuse(BunchError::PayloadShort { count: bits }, a, used);
     }
-    match inner::find(channels, a.active, ch_index) {
+    let slot = inner::find(channels, a.active, ch_index);
+    let met = meet(a, slot, places, header.b_partial_initial, bits);
+    let standing = met.standing;
+    let w = weigh(met.full, met.over, standing, met.held, header, bits);
+    let becomes = w.fate;
+    let answered = result(becomes, standing, header, bits);
+    match slot {
         Slot::At(i) => add_held(
             a,
             used,
             ch_index,
             i,
+            met,
+            w,
+            answered,
             header,
             payload,
             bits,
@@ -248,6 +290,9 @@ pub fn add_fragment(
             used,
             ch_index,
             i,
+            met,
+            w,
+            answered,
             header,
             payload,
             bits,
