@@ -1,7 +1,7 @@
 -- The partial tracker: `track_partial_bunch` of vrf-net/src/packet.rs, in its order.
 use Prim.Native.Nat.{ℕ}
-use mathlib.Core.Bool.{Bool, true, false, not, _&&_, _||_, cond}
-use lib.Dec.{eqb, leb}
+use mathlib.Core.Bool.{Bool, true, false, not, _&&_, cond}
+use lib.Dec.{leb}
 use lib.ListN.{length}
 use mir.Val.{boolByte}
 use Rattle.tables.specs.Tables.{Table, Found, none, found, get, put, without}

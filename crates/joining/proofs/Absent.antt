@@ -4,7 +4,7 @@ use mathlib.Core.Path.{_≡_, refl, sym, ap, _∙_}
 use mathlib.Core.Bool.{Bool, true, false, cond}
 use mathlib.Core.List.{List, [], _++_}
 use native.Mathlib.Omega.{arith}
-use lib.Dec.{eqb, leb, ltb}
+use lib.Dec.{leb, ltb}
 use lib.ListN.{length, take}
 use Rattle.tables.specs.declared.Slot.{Slot}
 use Rattle.tables.specs.Tables.{none, slotOf}
@@ -16,7 +16,7 @@ use Rattle.judging.specs.Fates.{sequenceWord, overlaps, fate}
 use Rattle.judging.specs.Headers.{afterTest}
 use Rattle.judging.specs.Messages.{displaced}
 use Rattle.judging.specs.Results.{result}
-use Rattle.judging.specs.Effects.{effectOf, effectOn, shown}
+use Rattle.judging.specs.Effects.{effectOn, shown}
 use Rattle.held.specs.declared.Accumulator.{Accumulator}
 use Rattle.held.specs.declared.BunchError.{BunchError}
 use Rattle.held.specs.Memory.{Memory, sizeAll}

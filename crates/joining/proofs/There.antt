@@ -4,7 +4,7 @@ use mathlib.Core.Path.{_≡_, refl, sym, ap, _∙_}
 use mathlib.Core.Bool.{Bool, true, false, cond}
 use mathlib.Core.List.{List, [], _++_}
 use native.Mathlib.Omega.{arith}
-use lib.Dec.{eqb, ltb}
+use lib.Dec.{ltb}
 use lib.ListN.{length, getD, take, drop, length-append}
 use Rattle.types.specs.declared.RawBunchHeader.{RawBunchHeader}
 use Rattle.tables.specs.declared.Slot.{Slot}
@@ -19,7 +19,7 @@ use Rattle.judging.specs.Fates.{sequenceWord, fate}
 use Rattle.judging.specs.Headers.{afterTest}
 use Rattle.judging.specs.Messages.{displaced}
 use Rattle.judging.specs.Results.{result}
-use Rattle.judging.specs.Effects.{effectOf, effectOn, shown, left}
+use Rattle.judging.specs.Effects.{effectOn, shown, left}
 use Rattle.judging.specs.Standings.{heldOf}
 use Rattle.held.specs.declared.Accumulator.{Accumulator}
 use Rattle.held.specs.declared.BunchError.{BunchError}

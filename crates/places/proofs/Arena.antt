@@ -7,7 +7,6 @@ use native.Mathlib.Omega.{arith}
 use lib.ListN.{length, getD, set, take, drop, take-append-drop, length-drop}
 use lib.Seq.{length-take-le, take-at, drop-append-le, drop-append-seam}
 use Rattle.tables.specs.Columns.{laid, insertedAt, removedAt}
-use Rattle.tables.proofs.Columns.{laid-twice}
 use Rattle.places.specs.Bytes.{pasted, part}
 use Rattle.places.specs.Packed.{joined, start}
 use Rattle.places.proofs.Packed.{start-within, start-next, joined-removed, joined-inserted, joined-changed}

@@ -1,5 +1,4 @@
 -- The numbers at the slot keep the steps in range; what they come to is There's.
-use Prim.Native.Nat.{_≤_}
 use mathlib.Core.Path.{refl}
 use mathlib.Core.List.{[]}
 use native.Mathlib.Omega.{arith}

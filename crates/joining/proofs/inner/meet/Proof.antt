@@ -1,5 +1,5 @@
 -- By the slot: the place's numbers keep the sums in range.
-use Prim.Native.Nat.{ℕ}
+use Prim.Native.Nat.{ℕ, _≤_}
 use mathlib.Core.Path.{_≡_, refl}
 use mathlib.Core.List.{List, []}
 use native.Mathlib.Omega.{arith}
@@ -23,19 +23,9 @@ standing-of-requires c κs = asked _ _ _ (c .before .before .before .slot .given
 sub-t16 : tie.Need-sub-t16
 sub-t16 c = asked _ _ _ (c .before .before .before .before .before .slot .given .1) (c .before .before .before .before .before .before .before .pre) .2
 
-add-t18 : tie.Need-add-t18
-add-t18 c =
-    let a = c .before .before .before .before .before .before .before .args in
-    let q = asked _ _ _ (c .before .before .before .before .before .slot .given .1) (c .before .before .before .before .before .before .before .pre) in
-    let few = joins-few (a .initial) (bitsOf (getD (a .places .now) (c .before .before .before .before .before .slot .given .0 .0) [])) (c .before .before .kept .ensures) in
-    omega (arith, q, few)
-
-add-t19 : tie.Need-add-t19
-add-t19 c =
-    let a = c .before .before .before .before .before .before .before .args in
-    let q = asked _ _ _ (c .before .before .before .before .before .slot .given .1) (c .before .before .before .before .before .before .before .pre) in
-    let few = joins-few (a .initial) (bitsOf (getD (a .places .now) (c .before .before .before .before .before .slot .given .0 .0) [])) (c .before .before .kept .ensures) in
-    omega (arith, q, few)
+-- what the fragment would join has no more bits than the place says
+joined : (c : tie.After-kept) → let a = c .before .before .before .before .before .args in c .kept .result ≤ bitsOf (getD (a .places .now) (c .before .before .before .slot .given .0 .0) [])
+joined c = let a = c .before .before .before .before .before .args in joins-few (a .initial) (bitsOf (getD (a .places .now) (c .before .before .before .slot .given .0 .0) [])) (c .kept .ensures)
 
 returns : tie.Need-returns
 returns c =
@@ -56,8 +46,8 @@ meet-spec =
     (λ c κs. search needs)
     standing-of-requires
     sub-t16
-    add-t18
-    add-t19
+    (λ c. let q = asked _ _ _ (c .before .before .before .before .before .slot .given .1) (c .before .before .before .before .before .before .before .pre) in omega (arith, q, joined (c .before .before)))
+    (λ c. let q = asked _ _ _ (c .before .before .before .before .before .slot .given .1) (c .before .before .before .before .before .before .before .pre) in omega (arith, q, joined (c .before .before)))
     (λ c. search needs)
     (λ c. let q = asked _ _ _ (c .before .before .enum-told .given .1) (c .before .before .before .before .pre) in omega (arith, q))
     returns
