@@ -2,7 +2,8 @@
 ghost use mathlib.Core.Path.{_≡_};
 ghost use lib.Ieee.{binary32, binary64};
 ghost use Rattle.window.specs.declared.Window.{Window};
-ghost use Rattle.window.specs.Reads.{readBit, readBits, readI32, readF32, readF64, readPacked, readSerialized};
+ghost use Rattle.window.specs.Reads.{readBit, readBits, readI32, readF32, readF64};
+ghost use Rattle.numbers.specs.Reads.{readPacked, readSerialized};
 ghost use Rattle.window.specs.Parse.{got};
 ghost use Rattle.bits.specs.Floats.{reading};
 ghost use Rattle.window.specs.Answers.{ofBit, ofU8, ofU16, ofU32, ofI32, ofU64, ofF32, ofF64, f32Answer, f64Answer};
@@ -204,7 +205,7 @@ pub fn read_int_packed(bytes: &[u8], w: Window) -> U32Read
             answer: U32::Refused(e),
             next: w,
         },
-        Done::Value => inner::packed(bytes, w),
+        Done::Value => numbers::inner::packed(bytes, w),
     }
 }
 
@@ -223,7 +224,7 @@ pub fn read_serialized_int(bytes: &[u8], w: Window, max: u32) -> U32Read
                     next: w,
                 };
             }
-            inner::serialized(bytes, w, max)
+            numbers::inner::serialized(bytes, w, max)
         }
     }
 }

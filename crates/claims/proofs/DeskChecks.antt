@@ -4,7 +4,8 @@ use lib.Count.{leadingZeros}
 use Rattle.bits.specs.Bits.{bitAt, bitsAt}
 use Rattle.window.specs.Refusals.{endless, tooLarge, zeroMaximum, unresolved}
 use Rattle.window.specs.Parse.{_>>=_, _>>_, give, refuse, refuseIf, readIf, place}
-use Rattle.window.specs.Reads.{dataFits, windowFits, cursorFits, sound, need, taken, bits, packedFrom, packed, log2, serialized, readPacked, readSerialized}
+use Rattle.window.specs.Reads.{dataFits, windowFits, cursorFits, sound, need, taken, bits}
+use Rattle.numbers.specs.Reads.{packedFrom, packed, log2, serialized, readPacked, readSerialized}
 use Rattle.window.specs.Reads.{bit, readBit}
 use Rattle.reading.specs.Packet.{dataBits, nextBunch}
 use Rattle.walking.specs.Records.{remaining, payload, counted, repLayout, call, classNetCache}

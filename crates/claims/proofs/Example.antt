@@ -7,7 +7,7 @@ use lib.Count.{leadingZeros}
 use lib.IntN.{pos}
 use Rattle.bits.specs.Bits.{bitAt}
 use Rattle.window.specs.Parse.{value}
-use Rattle.window.specs.Reads.{log2}
+use Rattle.numbers.specs.Reads.{log2}
 use Rattle.types.specs.declared.ChannelCloseReason.{ChannelCloseReason}
 use Rattle.types.specs.declared.PartialSequenceKind.{PartialSequenceKind}
 use Rattle.types.specs.declared.RawBunchHeader.{RawBunchHeader}

@@ -5,7 +5,7 @@ use mathlib.Core.Bool.{true, false}
 use mathlib.Core.List.{List, [], _∷_, _++_}
 use Rattle.window.specs.declared.Window.{Window}
 use Rattle.window.specs.Parse.{Answer, got, refused, Parse}
-use Rattle.window.specs.Reads.{readPacked, readSerialized}
+use Rattle.numbers.specs.Reads.{readPacked, readSerialized}
 use Rattle.window.specs.Windows.{front}
 use Rattle.reading.specs.Packet.{Outcome, bunch, end, malformed, nextBunch}
 use Rattle.walking.specs.Walks.{Stop, ended, tail, abandoned, Walked}

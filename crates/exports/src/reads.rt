@@ -1,6 +1,7 @@
 // Reads. Each writes the seven words of its answer.
 ghost use mathlib.Core.Path.{_≡_};
-ghost use Rattle.window.specs.Reads.{readBit, readBits, readI32, readF32, readF64, readPacked, readSerialized};
+ghost use Rattle.window.specs.Reads.{readBit, readBits, readI32, readF32, readF64};
+ghost use Rattle.numbers.specs.Reads.{readPacked, readSerialized};
 ghost use Rattle.answers.specs.Words.{windowAt, words, one, flag, signedWord, pattern, float};
 use answers::words;
 use answers::words::Words;

@@ -1,6 +1,7 @@
 // Reads through the reader that keeps its packet's slice, for C and Rust: each writes the seven words of its answer (crates/answers).
 ghost use mathlib.Core.Path.{_≡_};
-ghost use Rattle.window.specs.Reads.{readBits, readPacked, readSerialized};
+ghost use Rattle.window.specs.Reads.{readBits};
+ghost use Rattle.numbers.specs.Reads.{readPacked, readSerialized};
 ghost use Rattle.answers.specs.Words.{windowAt, words, one};
 use answers::words;
 use answers::words::Words;

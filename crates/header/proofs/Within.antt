@@ -6,7 +6,8 @@ use mathlib.Core.List.{List}
 use Rattle.window.specs.declared.Window.{Window}
 use Rattle.window.specs.Parse.{Answer, got, refused}
 use Rattle.window.specs.Reads.{bit}
-use Rattle.window.proofs.Keeps.{Keeps, keeps-then, keeps-give, keeps-if, keeps-bits, keeps-packed, keeps-serialized}
+use Rattle.window.proofs.Keeps.{Keeps, keeps-then, keeps-give, keeps-if, keeps-bits}
+use Rattle.numbers.proofs.Keeps.{keeps-packed, keeps-serialized}
 use Rattle.types.specs.Types.{closeReasonMaximum, payloadMaximum}
 use Rattle.header.specs.declared.BunchFields.{BunchFields}
 use Rattle.header.specs.Header.{Header, unreadable, readable, headerOf, fields}

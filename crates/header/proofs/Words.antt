@@ -15,7 +15,8 @@ use Rattle.bits.specs.Bits.{bitsAt}
 use Rattle.bits.specs.Words.{Peeked}
 use Rattle.window.specs.Refusals.{placeOf}
 use Rattle.window.specs.Parse.{Answer, got, Parse, andThen, _>>=_, give, readIf, place, advanced}
-use Rattle.window.specs.Reads.{bits, bit, packedFrom, packed, log2, serialized}
+use Rattle.window.specs.Reads.{bits, bit}
+use Rattle.numbers.specs.Reads.{packedFrom, packed, log2, serialized}
 use Rattle.bits.proofs.Numbers.{cut}
 use Rattle.window.proofs.Steps.{bits-there}
 use Rattle.header.specs.declared.BunchFields.{BunchFields}

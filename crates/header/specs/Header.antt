@@ -2,7 +2,8 @@
 use Prim.Native.Nat.{ℕ}
 use mathlib.Core.Bool.{false, _||_}
 use Rattle.window.specs.Parse.{Answer, got, refused, Parse, _>>=_, give, readIf}
-use Rattle.window.specs.Reads.{bit, packed, serialized}
+use Rattle.window.specs.Reads.{bit}
+use Rattle.numbers.specs.Reads.{packed, serialized}
 use Rattle.types.specs.Types.{closeReasonMaximum, payloadMaximum}
 use Rattle.header.specs.declared.BunchFields.{BunchFields}
 

@@ -4,7 +4,8 @@ ghost use mathlib.Core.Bool.{false};
 ghost use Prim.Native.Nat.{_<_};
 ghost use Rattle.window.specs.Parse.{readIf};
 ghost use Rattle.window.specs.Answers.{ofU32};
-ghost use Rattle.window.specs.Reads.{bit, packed, serialized};
+ghost use Rattle.window.specs.Reads.{bit};
+ghost use Rattle.numbers.specs.Reads.{packed, serialized};
 ghost use Rattle.window.specs.Sound.{Sound};
 ghost use Rattle.header.specs.Header.{fields, headerOf};
 ghost use Rattle.header.specs.Row.{settled, taken, flagOf, numberOf, headerRead};
@@ -97,7 +98,7 @@ fn packed(bytes: &[u8], row: Row, wanted: bool) -> NumberTaken
         return NumberTaken { value: 0, row };
     }
     let at = row.at;
-    number(inner::packed(bytes, at))
+    number(numbers::inner::packed(bytes, at))
 }
 
 fn serialized(bytes: &[u8], row: Row, wanted: bool, max: u32) -> NumberTaken
@@ -108,7 +109,7 @@ fn serialized(bytes: &[u8], row: Row, wanted: bool, max: u32) -> NumberTaken
         return NumberTaken { value: 0, row };
     }
     let at = row.at;
-    number(inner::serialized(bytes, at, max))
+    number(numbers::inner::serialized(bytes, at, max))
 }
 
 pub struct HeaderRead {

@@ -6,7 +6,8 @@ use lib.Count.{leadingZeros}
 use Rattle.bits.specs.Bits.{bitAt, bitsAt}
 use Rattle.bits.specs.Floats.{signed}
 use Rattle.window.specs.Parse.{_>>=_, _>>_, give, refuse, refuseIf, readIf, place}
-use Rattle.window.specs.Reads.{need, taken, bits, bit, packedFrom, packed, log2, serialized}
+use Rattle.window.specs.Reads.{need, taken, bits, bit}
+use Rattle.numbers.specs.Reads.{packedFrom, packed, log2, serialized}
 use Rattle.tables.specs.Tables.{get, put, without}
 use Rattle.types.specs.Types.{reasonOf}
 use Rattle.header.specs.Header.{fields}

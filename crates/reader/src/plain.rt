@@ -1,6 +1,7 @@
 // Calls with plain parameters that go through a reader: a caller sees a slice and a window, and needs nothing of a reader.
 ghost use mathlib.Core.Path.{_≡_};
-ghost use Rattle.window.specs.Reads.{readBits, readPacked, readSerialized};
+ghost use Rattle.window.specs.Reads.{readBits};
+ghost use Rattle.numbers.specs.Reads.{readPacked, readSerialized};
 ghost use Rattle.window.specs.Windows.{withBitLen};
 ghost use Rattle.window.specs.Answers.{ofU32, ofU64};
 ghost use Rattle.reader.specs.Openings.{ofNumber, readOpened};

@@ -1,5 +1,6 @@
 // Reads, in the order of vrf-bitio/src/lib.rs. Each asks `bitio` at the reader's place, and moves the reader to where that read stopped.
-ghost use Rattle.window.specs.Reads.{readBit, readBits, readI32, readF32, readF64, readPacked, readSerialized};
+ghost use Rattle.window.specs.Reads.{readBit, readBits, readI32, readF32, readF64};
+ghost use Rattle.numbers.specs.Reads.{readPacked, readSerialized};
 ghost use Rattle.window.specs.Answers.{bitAnswer, u8Answer, u16Answer, u32Answer, i32Answer, u64Answer, f32Answer, f64Answer};
 ghost use Rattle.reader.specs.Readers.{Moved};
 use crate::BitReader;

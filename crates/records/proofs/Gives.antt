@@ -12,7 +12,8 @@ use Rattle.window.specs.declared.Window.{Window}
 use Rattle.window.specs.declared.Place.{Place}
 use Rattle.window.specs.Refusals.{Refusal, tooLarge}
 use Rattle.window.specs.Parse.{Answer, got, refused, Parse, andThen, _>>=_, _>>_, give, refuse, refuseIf, readIf}
-use Rattle.window.specs.Reads.{taken, bits, packedFrom, packed, log2, serialized}
+use Rattle.window.specs.Reads.{taken, bits}
+use Rattle.numbers.specs.Reads.{packedFrom, packed, log2, serialized}
 use Rattle.window.proofs.Rows.{not-refused}
 use Rattle.walking.specs.Records.{Looked, ends, abandons, finds, payload, counted, repLayout, call, classNetCache}
 

@@ -13,9 +13,10 @@ use Rattle.window.specs.declared.Place.{Place}
 use Rattle.bits.specs.Bits.{bitAt, bitsAt}
 use Rattle.window.specs.Refusals.{placeOf, endless, tooLarge}
 use Rattle.window.specs.Parse.{got, _>>=_, give, readIf, place, advanced}
-use Rattle.window.specs.Reads.{bits, bit, packedFrom, packed, log2, serialized}
+use Rattle.window.specs.Reads.{bits, bit}
+use Rattle.numbers.specs.Reads.{packedFrom, packed, log2, serialized}
 use Rattle.bits.proofs.Numbers.{bits-lt, bits-one}
-use Rattle.window.proofs.Logs.{log2-lt}
+use Rattle.numbers.proofs.Logs.{log2-lt}
 use Rattle.window.proofs.Steps.{bits-there}
 use Rattle.spelling.specs.Bits.{bitsOf, bitsFrom, onlyIf, packedUpTo, packedBits, serializedBits}
 use Rattle.spelling.proofs.Lists.{length-bitsOf}

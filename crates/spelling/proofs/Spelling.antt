@@ -10,7 +10,7 @@ use lib.Bits.{block-half, block-odd}
 use lib.Count.{leadingZeros}
 use lib.Dec.{eqb}
 use lib.Pow.{pow-pos, pow-add, split}
-use Rattle.window.specs.Reads.{log2}
+use Rattle.numbers.specs.Reads.{log2}
 use Rattle.types.specs.Types.{closeReasonMaximum, payloadMaximum}
 use Rattle.spelling.specs.declared.inner.Bits.{Bits}
 use Rattle.spelling.specs.Bits.{bitsOf, onlyIf, serializedBits}

@@ -6,7 +6,7 @@ use lib.Dec.{eqb, ltb}
 use lib.ListN.{getD, set}
 use mir.Val.{boolByte}
 use Rattle.bits.specs.Bits.{bitAt}
-use Rattle.window.specs.Reads.{log2}
+use Rattle.numbers.specs.Reads.{log2}
 
 -- the n lowest bits of a number
 unfoldable pub bitsOf : ℕ → ℕ → List Bool

@@ -8,10 +8,12 @@ use native.Mathlib.Omega.{arith}
 use lib.Count.{leadingZeros}
 use Rattle.window.specs.declared.Window.{Window}
 use Rattle.window.specs.Parse.{Answer, got, refused, Parse, andThen, _>>=_, advanced}
-use Rattle.window.specs.Reads.{bits, bit, packed, log2, serialized}
+use Rattle.window.specs.Reads.{bits, bit}
+use Rattle.numbers.specs.Reads.{packed, log2, serialized}
 use Rattle.window.proofs.Rows.{not-refused}
 use Rattle.window.proofs.Steps.{bits-short, bits-there}
-use Rattle.window.proofs.Keeps.{Keeps, keeps-then, keeps-give, keeps-if, keeps-bits, keeps-packed, keeps-serialized, packed-reads}
+use Rattle.window.proofs.Keeps.{Keeps, keeps-then, keeps-give, keeps-if, keeps-bits}
+use Rattle.numbers.proofs.Keeps.{keeps-packed, keeps-serialized, packed-reads}
 use Rattle.types.specs.Types.{closeReasonMaximum, payloadMaximum}
 use Rattle.header.specs.Header.{fields}
 

@@ -11,7 +11,8 @@ use Rattle.window.specs.declared.BitError.{BitError}
 use Rattle.window.specs.declared.Done.{Done}
 use Rattle.window.specs.Refusals.{Refusal, tooWide, zeroMaximum}
 use Rattle.window.specs.Parse.{got, refused, Parse, _>>_, give, refuseIf}
-use Rattle.window.specs.Reads.{sound, bit, bits, packed, serialized, readBit, readBits, readPacked, readSerialized}
+use Rattle.window.specs.Reads.{sound, bit, bits, readBit, readBits}
+use Rattle.numbers.specs.Reads.{packed, serialized, readPacked, readSerialized}
 use Rattle.window.specs.Answers.{doneAnswer}
 use Rattle.window.specs.Sound.{Sound}
 use Rattle.window.proofs.Rows.{then-got, then-refused, next-got, refuses, lets-on}

@@ -5,7 +5,8 @@ use lib.ListN.{length, getD}
 use mir.Val.{boolByte}
 use Rattle.window.specs.declared.Window.{Window}
 use Rattle.window.specs.Parse.{Answer, got, refused, Parse, _>>=_, _>>_, give}
-use Rattle.window.specs.Reads.{readBit, readBits, readPacked, readSerialized}
+use Rattle.window.specs.Reads.{readBit, readBits}
+use Rattle.numbers.specs.Reads.{readPacked, readSerialized}
 use Rattle.window.specs.Copies.{copied, copyBits}
 
 abbrev pub window : ℕ → ℕ → ℕ → Window

@@ -116,7 +116,7 @@ pub extern "C" fn timing_read_int_packed(
             let mut sum: u64 = 0;
             let mut k: u64 = 0;
             while k < n {
-                let read = window::inner::packed(bytes, w);
+                let read = numbers::inner::packed(bytes, w);
                 let answer = read.answer;
                 match answer {
                     U32::Refused(_) => {
@@ -159,7 +159,7 @@ pub extern "C" fn timing_read_serialized_int(
                 if max == 0 {
                     return sum;
                 }
-                let read = window::inner::serialized(bytes, w, max);
+                let read = numbers::inner::serialized(bytes, w, max);
                 let answer = read.answer;
                 match answer {
                     U32::Refused(_) => {

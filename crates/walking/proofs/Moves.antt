@@ -9,9 +9,10 @@ use borrow.Author.Tests.{le-leb, lt-leb}
 use lib.Dec.{ltb, leb, eqb}
 use Rattle.window.specs.declared.Window.{Window}
 use Rattle.window.specs.Parse.{Answer, got, refused, Parse, andThen, _>>=_, give, readIf}
-use Rattle.window.specs.Reads.{packed}
+use Rattle.numbers.specs.Reads.{packed}
 use Rattle.window.proofs.Rows.{not-refused}
-use Rattle.window.proofs.Keeps.{Stays, stays, left, Keeps, keeps-packed, keeps-serialized, packed-reads}
+use Rattle.window.proofs.Keeps.{Stays, stays, left, Keeps}
+use Rattle.numbers.proofs.Keeps.{keeps-packed, keeps-serialized, packed-reads}
 use Rattle.walking.specs.declared.inner.Kind.{Kind}
 use Rattle.walking.specs.Records.{Found, Looked, ends, abandons, finds, bitsLeft, remaining, payload, counted, repLayout, call, classNetCache, look}
 

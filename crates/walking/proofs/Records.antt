@@ -10,7 +10,7 @@ use Rattle.window.specs.declared.U32Read.{U32Read}
 use Rattle.window.specs.Refusals.{Refusal, paper}
 use Rattle.window.specs.Answers.{u32Answer, ofU32}
 use Rattle.window.specs.Parse.{Answer, got, refused, _>>=_, give, readIf, advanced}
-use Rattle.window.specs.Reads.{packed, serialized}
+use Rattle.numbers.specs.Reads.{packed, serialized}
 use Rattle.window.proofs.Rows.{then-refused}
 use Rattle.walking.specs.Records.{ends, abandons, finds, remaining, payload, counted, repLayout, call, classNetCache}
 

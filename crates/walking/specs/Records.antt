@@ -5,7 +5,7 @@ use lib.Dec.{ltb, leb, eqb}
 use Rattle.window.specs.declared.Window.{Window}
 use Rattle.window.specs.Refusals.{paper}
 use Rattle.window.specs.Parse.{Answer, got, refused, Parse, _>>=_, readIf, advanced}
-use Rattle.window.specs.Reads.{packed, serialized}
+use Rattle.numbers.specs.Reads.{packed, serialized}
 use Rattle.walking.specs.declared.inner.Kind.{Kind}
 use Rattle.walking.specs.declared.inner.Step.{Step}
 use Rattle.walking.specs.declared.inner.StepRead.{StepRead}

@@ -84,7 +84,7 @@ fn counted(bytes: &[u8], w: Window, handle: u32) -> StepRead
     requires { ⌜ Sound (now bytes) w ⌝ }
     ensures { λ r. ⌜ (ofStep r ≡ counted handle (now (bytes .entry)) w) × Sound (now (bytes .entry)) (r .next) ⌝ }
 {
-    let read = inner::packed(bytes, w);
+    let read = numbers::inner::packed(bytes, w);
     let next = read.next;
     let answer = read.answer;
     match answer {
@@ -118,7 +118,7 @@ fn rep_layout(bytes: &[u8], w: Window) -> StepRead
     requires { ⌜ Sound (now bytes) w ⌝ }
     ensures { λ r. ⌜ (ofStep r ≡ repLayout (now (bytes .entry)) w) × Sound (now (bytes .entry)) (r .next) ⌝ }
 {
-    let read = inner::packed(bytes, w);
+    let read = numbers::inner::packed(bytes, w);
     let next = read.next;
     let answer = read.answer;
     match answer {
@@ -142,7 +142,7 @@ fn call(bytes: &[u8], w: Window, max: u32) -> StepRead
     requires { ⌜ Sound (now bytes) w × (0 < max) ⌝ }
     ensures { λ r. ⌜ (ofStep r ≡ call max (now (bytes .entry)) w) × Sound (now (bytes .entry)) (r .next) ⌝ }
 {
-    let read = inner::serialized(bytes, w, max);
+    let read = numbers::inner::serialized(bytes, w, max);
     let next = read.next;
     let answer = read.answer;
     match answer {

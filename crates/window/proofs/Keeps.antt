@@ -2,16 +2,14 @@
 use mathlib.Core.Path.{_≡_, refl, sym, _∙_}
 use mathlib.Core.Bool.{Bool, true, false}
 use mathlib.Core.List.{List}
-use Prim.Native.Nat.{ℕ, zero, suc, _+_, _-_, _/_, _%_, _^_, _≤_}
+use Prim.Native.Nat.{ℕ, _+_, _-_, _≤_}
 use native.Mathlib.Decide.{decLe}
 use native.Mathlib.Omega.{arith}
-use lib.Dec.{eqb, ltb}
 use Rattle.window.specs.declared.Window.{Window}
-use Rattle.window.specs.declared.Place.{Place}
 use Rattle.bits.specs.Bits.{bitsAt}
-use Rattle.window.specs.Refusals.{Refusal, endless, tooLarge, placeOf}
-use Rattle.window.specs.Parse.{Answer, got, refused, Parse, andThen, _>>=_, _>>_, give, refuse, refuseIf, readIf, place, advanced}
-use Rattle.window.specs.Reads.{bits, packedFrom, packed, log2, serialized}
+use Rattle.window.specs.Refusals.{Refusal}
+use Rattle.window.specs.Parse.{Answer, got, refused, Parse, andThen, _>>=_, _>>_, give, refuse, refuseIf, readIf, advanced}
+use Rattle.window.specs.Reads.{bits}
 use Rattle.window.specs.Sound.{Sound}
 use Rattle.window.proofs.Rows.{not-refused, then-got, then-refused}
 use Rattle.window.proofs.Steps.{bits-short, bits-there}
@@ -88,21 +86,6 @@ keeps-bits n = record { keeps = λ d w. go d w (decLe n (w .length - w .position
     go d w (yes h) = rw (bits-there d w n h) (past w n h)
     go d w (no h) = rw (bits-short d w n (omega arith)) (stays w)
 
-pub keeps-packed-from : (n : ℕ) (p : Place) → Keeps (packedFrom n p)
-unfolding packedFrom
-keeps-packed-from zero p =
-    keeps-then (keeps-bits 8) (λ b. keeps-next (keeps-refuse (eqb (b % 2) 1) (endless p)) (keeps-next (keeps-refuse (ltb 15 (b / 2)) (tooLarge p)) (keeps-give (b / 2))))
-keeps-packed-from (suc n) p =
-    keeps-then (keeps-bits 8) (λ b. keeps-then (keeps-if (eqb (b % 2) 1) 0 (keeps-packed-from n p)) (λ r. keeps-give _))
-
-pub keeps-packed : Keeps packed
-unfolding packed place
-keeps-packed = keeps-then (record { keeps = λ d w. stays w }) (λ p. keeps-packed-from 4 p)
-
-pub keeps-serialized : (m : ℕ) → Keeps (serialized m)
-unfolding serialized
-keeps-serialized m = keeps-then (keeps-bits (log2 m)) (λ v. keeps-then (keeps-if (ltb (v + 2 ^ log2 m) m) 0 (keeps-bits 1)) (λ t. keeps-give _))
-
 -- a row that begins with n bits has read at least these where it gives a value
 pub reads-first : {A : Type 0} (n : ℕ) {k : ℕ → Parse A} → ((b : ℕ) → Keeps (k b)) → (d : List ℕ) (w : Window) {a : A} {u : Window} → (bits n >>= k) d w ≡ got a u
     → w .position .0 + n ≤ u .position .0
@@ -115,9 +98,3 @@ reads-first n {k} f d w {a} {u} e = go (decLe n (w .length - w .position .0))
         let g : k b d (advanced w n) ≡ got a u = sym (then-got d w (bits n) k (bits-there d w n h)) ∙ e in
         rw g at s .on
     go (no h) = absurd (not-refused (sym (then-refused d w (bits n) k (bits-short d w n (omega arith))) ∙ e))
-
-pub packed-reads : (d : List ℕ) (w : Window) {v : ℕ} {u : Window} → packed d w ≡ got v u → w .position .0 + 8 ≤ u .position .0
-unfolding packed packedFrom place
-packed-reads d w e =
-    reads-first 8 (λ b. keeps-then (keeps-if (eqb (b % 2) 1) 0 (keeps-packed-from 3 (placeOf w))) (λ r. keeps-give _)) d w
-    (sym (then-got d w place (packedFrom 4) refl) ∙ e)

@@ -2,7 +2,7 @@
 use mathlib.Core.Path.{sym, _∙_}
 use Prim.Native.Nat.{_-_}
 use borrow.Author.Needs.{needs}
-use Rattle.window.specs.Reads.{packed, readPacked}
+use Rattle.numbers.specs.Reads.{packed, readPacked}
 use Rattle.cursor.proofs.Tests.{tested}
 use Rattle.timing.specs.Sums.{plus, window, packedSum}
 use Rattle.timing.proofs.Laws.{Row, begin, adds, sum-ends, finish, no-sum, packed-on}

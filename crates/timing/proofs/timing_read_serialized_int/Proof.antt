@@ -7,7 +7,7 @@ use lib.ListN.{length, getD}
 use borrow.Author.Needs.{needs}
 use Rattle.window.specs.Refusals.{zeroMaximum}
 use Rattle.window.specs.Parse.{_>>_, refuseIf}
-use Rattle.window.specs.Reads.{serialized, readSerialized}
+use Rattle.numbers.specs.Reads.{serialized, readSerialized}
 use Rattle.cursor.proofs.Tests.{tested}
 use Rattle.timing.specs.Sums.{plus, window, serializedSum}
 use Rattle.timing.proofs.Laws.{Row, begin, adds, sum-ends, finish, no-sum, serialized-on, no-maximum}

@@ -1,6 +1,6 @@
 -- Not asked for, or the number's read.
 use mathlib.Core.Path.{sym, ap, _∙_}
-use Rattle.window.specs.Reads.{packed}
+use Rattle.numbers.specs.Reads.{packed}
 use Rattle.header.specs.Row.{settled}
 use Rattle.header.proofs.Rows.{skips, takes}
 use borrow.Author.Needs.{needs}

@@ -1,6 +1,6 @@
 -- `reader::BitReader::read_int_packed` meets its contract: it asks `bitio`'s `read_int_packed` at the reader's place.
 use Rattle.window.specs.Answers.{u32Answer}
-use Rattle.window.specs.Reads.{readPacked}
+use Rattle.numbers.specs.Reads.{readPacked}
 use Rattle.bitio.proofs.reads.read_int_packed.Symbol as asked
 use Rattle.bitio.proofs.reads.read_int_packed.Met as asked-thm
 use Rattle.reader.proofs.Asking.{asks}

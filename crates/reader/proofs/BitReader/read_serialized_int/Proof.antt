@@ -1,7 +1,7 @@
 -- `reader::BitReader::read_serialized_int` meets its contract: it asks `bitio`'s `read_serialized_int` at the reader's place.
 use mir.Syntax.{w32}
 use Rattle.window.specs.Answers.{u32Answer}
-use Rattle.window.specs.Reads.{readSerialized}
+use Rattle.numbers.specs.Reads.{readSerialized}
 use Rattle.bitio.proofs.reads.read_serialized_int.Symbol as asked
 use Rattle.bitio.proofs.reads.read_serialized_int.Met as asked-thm
 use Rattle.reader.proofs.AskingFor.{asks-for}

@@ -8,7 +8,7 @@ use Rattle.window.specs.declared.U32.{U32}
 use Rattle.window.specs.declared.Window.{Window}
 use Rattle.window.specs.Answers.{ofOpened, u32Answer}
 use Rattle.window.specs.Parse.{Result}
-use Rattle.window.specs.Reads.{readPacked}
+use Rattle.numbers.specs.Reads.{readPacked}
 use Rattle.reader.specs.Openings.{ofAnswer, ofNumber, readOpened}
 use Rattle.reader.proofs.plain.first_int_packed.Statement.{statement}
 use Rattle.reader.proofs.plain.first_int_packed.Tie as tie

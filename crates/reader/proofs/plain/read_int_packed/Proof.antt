@@ -1,6 +1,6 @@
 -- `reader::plain::read_int_packed` meets its contract: it lends a reader to `BitReader::read_int_packed` (Through).
 use Rattle.window.specs.Answers.{u32Answer}
-use Rattle.window.specs.Reads.{readPacked}
+use Rattle.numbers.specs.Reads.{readPacked}
 use Rattle.reader.proofs.BitReader.read_int_packed.Symbol as asked
 use Rattle.reader.proofs.BitReader.read_int_packed.Met as asked-thm
 use Rattle.reader.proofs.Through.{through}

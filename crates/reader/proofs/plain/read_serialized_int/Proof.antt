@@ -1,7 +1,7 @@
 -- `reader::plain::read_serialized_int` meets its contract: it lends a reader to `BitReader::read_serialized_int` (Through).
 use mir.Syntax.{w32}
 use Rattle.window.specs.Answers.{u32Answer}
-use Rattle.window.specs.Reads.{readSerialized}
+use Rattle.numbers.specs.Reads.{readSerialized}
 use Rattle.reader.proofs.BitReader.read_serialized_int.Symbol as asked
 use Rattle.reader.proofs.BitReader.read_serialized_int.Met as asked-thm
 use Rattle.reader.proofs.Through.{through-for}

@@ -5,7 +5,7 @@ use native.Mathlib.Numerals.{add-one}
 use native.Mathlib.Omega.{arith}
 use lib.Count.{leadingZeros, leading-top}
 use lib.Pow.{pow-mono}
-use Rattle.window.specs.Reads.{log2}
+use Rattle.numbers.specs.Reads.{log2}
 
 module _ (m : ℕ) (h : 0 < m) (f : m < 2 ^ 32) where
   top : (j : ℕ) × (leadingZeros 32 m + suc j ≡ 32) × (2 ^ j ≤ m) × (m < 2 ^ suc j)

@@ -6,10 +6,10 @@ use native.Mathlib.Omega.{arith}
 use lib.Pow.{shr-shr}
 use borrow.Author.Needs.{needs}
 use Rattle.bits.specs.Bits.{bitsAt}
 use Rattle.window.proofs.Steps.{sound-past}
-use Rattle.window.proofs.Packed.{Turn, begin, cut-byte, sum-fits, scale-fits, only-fifth, large, value, next}
-use Rattle.window.proofs.inner.packed.Statement.{statement}
-use Rattle.window.proofs.inner.packed.Tie as tie
+use Rattle.numbers.proofs.Packed.{Turn, begin, cut-byte, sum-fits, scale-fits, only-fifth, large, value, next}
+use Rattle.numbers.proofs.inner.packed.Statement.{statement}
+use Rattle.numbers.proofs.inner.packed.Tie as tie
 
 abbrev Inv-loop : tie.InvT-loop
 Inv-loop bytes w left₀ rest₀ value₀ scale₀ k₀ left rest value scale k =

@@ -1,9 +1,9 @@
 -- What the leading zeros leave is the floor of the logarithm: the laws of Logs.
 use mathlib.Core.Path.{refl}
-use Rattle.window.specs.Reads.{log2}
-use Rattle.window.proofs.Logs.{zeros-few, log2-few, log2-le, log2-next}
-use Rattle.window.proofs.inner.floor_log2.Statement.{statement}
-use Rattle.window.proofs.inner.floor_log2.Tie as tie
+use Rattle.numbers.specs.Reads.{log2}
+use Rattle.numbers.proofs.Logs.{zeros-few, log2-few, log2-le, log2-next}
+use Rattle.numbers.proofs.inner.floor_log2.Statement.{statement}
+use Rattle.numbers.proofs.inner.floor_log2.Tie as tie
 
 sub-result : tie.Need-sub-result
 sub-result c = zeros-few (c .args .max) (c .pre) (c .fits .max .fits)

@@ -7,13 +7,13 @@ use native.Mathlib.Decide.{decLe}
 use native.Mathlib.Omega.{arith}
 use lib.Pow.{pow-add, pow-mono}
 use borrow.Author.Tests.{lt-ltb, le-ltb, eq-eqb, ne-eqb}
 use Rattle.window.specs.declared.Window.{Window}
 use Rattle.window.specs.declared.Place.{Place}
 use Rattle.bits.specs.Bits.{bitsAt}
 use Rattle.window.specs.Refusals.{tooFewBits, endless, tooLarge, placeOf}
 use Rattle.window.specs.Parse.{Answer, got, refused, andThen, _>>=_, _>>_, place, refuseIf, refuse, readIf, give, advanced}
-use Rattle.window.specs.Reads.{packedFrom, packed}
+use Rattle.numbers.specs.Reads.{packedFrom, packed}
 use Rattle.window.proofs.Steps.{bits-short, bits-there, advanced-past}
 
 -- the answer, as the higher chunks of a number whose lower ones are v, and below s
 abbrev pub above : ℕ → ℕ → Answer ℕ → Answer ℕ

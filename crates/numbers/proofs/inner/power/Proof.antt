@@ -5,8 +5,8 @@ use native.Mathlib.Nat.{one-mul, mod-eq-of-lt}
 use native.Mathlib.Omega.{arith}
 use lib.Pow.{pow-pos, pow-lt}
 use borrow.Author.Needs.{needs}
-use Rattle.window.proofs.inner.power.Statement.{statement}
-use Rattle.window.proofs.inner.power.Tie as tie
+use Rattle.numbers.proofs.inner.power.Statement.{statement}
+use Rattle.numbers.proofs.inner.power.Tie as tie
 
 returns : tie.Need-returns
 returns c =

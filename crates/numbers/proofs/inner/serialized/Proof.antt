@@ -7,10 +7,10 @@ use native.Mathlib.Omega.{arith}
 use borrow.Author.Needs.{needs}
 use Rattle.bits.specs.Bits.{bitsAt}
 use Rattle.bits.proofs.Loads.{peeked-low}
 use Rattle.window.proofs.Steps.{sound-past}
-use Rattle.window.proofs.Serialized.{cut, without-top, cut-top, with-top}
-use Rattle.window.proofs.inner.serialized.Statement.{statement}
-use Rattle.window.proofs.inner.serialized.Tie as tie
+use Rattle.numbers.proofs.Serialized.{cut, without-top, cut-top, with-top}
+use Rattle.numbers.proofs.inner.serialized.Statement.{statement}
+use Rattle.numbers.proofs.inner.serialized.Tie as tie
 
 returns : tie.Need-returns
 returns c =

@@ -5,13 +5,13 @@ use Prim.Native.Nat.{ℕ, _+_, _*_, _-_, _^_, _≤_, _<_}
 use native.Mathlib.Nat.{zero-mul, mul-comm, add-zero, add-assoc}
 use native.Mathlib.Omega.{arith}
 use borrow.Author.Tests.{lt-ltb, le-ltb}
 use Rattle.window.specs.declared.Window.{Window}
 use Rattle.bits.specs.Bits.{bitsAt}
 use Rattle.window.specs.Refusals.{tooFewBits, placeOf}
 use Rattle.window.specs.Parse.{got, refused, _>>=_, readIf, give, advanced}
-use Rattle.window.specs.Reads.{log2, serialized}
+use Rattle.numbers.specs.Reads.{log2, serialized}
 use Rattle.bits.proofs.Numbers.{bits-append}
 use Rattle.window.proofs.Steps.{bits-short, bits-there, advanced-past}
 
 module _ (d : List ℕ) (w : Window) (m : ℕ) {n : ℕ} (en : log2 m ≡ n) where
   pub cut : w .length - w .position .0 < n → serialized m d w ≡ refused (tooFewBits (placeOf w) (w .length) n) w

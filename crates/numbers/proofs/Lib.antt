@@ -1,0 +1,4 @@
+pub mod Packed
+pub mod Serialized
+pub mod Logs
+pub mod Keeps
