@@ -1,2 +1,2 @@
-pub mod Calls
+pub mod Halves
 pub mod Example

@@ -1,6 +1,5 @@
 // The lines of the listing, as bytes in a lent slice.
 pub mod inner;
-pub mod writing;
 
 // What a bunch's line shows of its header, by the header's names.
 pub struct BunchLine {

@@ -1,6 +1,6 @@
 -- The two halves are the line.
 use Rattle.digits.proofs.Texts.{then}
-use Rattle.lines.proofs.Calls.{halves}
+use Rattle.lines.proofs.Halves.{halves}
 use borrow.Author.Needs.{needs}
 use Rattle.lines.proofs.inner.bunch_line.Statement.{statement}
 use Rattle.lines.proofs.inner.bunch_line.Tie as tie

@@ -2,12 +2,12 @@
 ghost use mathlib.Core.Path.{_≡_};
 ghost use Prim.Native.Nat.{_+_};
 ghost use lib.Dec.{leb};
 ghost use Rattle.lines.specs.Lines.{bunchLine, packetLine, versionLine, cutLine, textOf, lineRoom, lineAnswers, lineLeaves};
-use crate::BunchLine;
-use crate::Line;
-use crate::PacketLine;
-use crate::Text;
-use crate::inner;
+use lines::BunchLine;
+use lines::Line;
+use lines::PacketLine;
+use lines::Text;
+use lines::inner;
 
 fn fits(at: usize, size: usize) -> bool
     ensures { λ r. ⌜ r ≡ leb (at + lineRoom) size ⌝ }

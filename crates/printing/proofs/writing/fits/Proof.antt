@@ -3,9 +3,9 @@ use mathlib.Core.Path.{sym}
 use Prim.Native.Nat.{_+_}
 use native.Mathlib.Omega.{arith}
 use borrow.Author.Tests.{lt-leb}
-use Rattle.lines.proofs.Calls.{moved}
-use Rattle.lines.proofs.writing.fits.Statement.{statement}
-use Rattle.lines.proofs.writing.fits.Tie as tie
+use Rattle.printing.proofs.Calls.{moved}
+use Rattle.printing.proofs.writing.fits.Statement.{statement}
+use Rattle.printing.proofs.writing.fits.Tie as tie
 
 returns : tie.Need-returns
 returns c = sym (lt-leb (c .before .args .at + 96) (c .before .args .size) (omega arith))

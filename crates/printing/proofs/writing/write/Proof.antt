@@ -3,11 +3,11 @@ use mathlib.Core.Path.{sym, _∙_}
 use borrow.Author.Tests.{leb-true}
 use Prim.Native.Nat.{_+_}
 use lib.ListN.{length}
 use Rattle.lines.specs.Lines.{textOf}
-use Rattle.lines.proofs.Calls.{with-room, no-room}
+use Rattle.printing.proofs.Calls.{with-room, no-room}
 use borrow.Author.Needs.{needs}
-use Rattle.lines.proofs.writing.write.Statement.{statement}
-use Rattle.lines.proofs.writing.write.Tie as tie
+use Rattle.printing.proofs.writing.write.Statement.{statement}
+use Rattle.printing.proofs.writing.write.Tie as tie
 
 write-requires : tie.Need-write-requires
 write-requires c κs = leb-true (c .before .before .before .before .args .at + 96) (length (c .before .before .before .before .args .out .now)) (sym (c .before .before .fits2 .ensures) ∙ c .before .if1 .taken)

@@ -1,6 +1,6 @@
--- A bunch's line from its halves, and the public calls by their test of room.
+-- The public calls by their test of room.
 use mathlib.Core.Path.{_≡_, refl, sym}
-use mathlib.Core.List.{List, _++_, append-assoc}
+use mathlib.Core.List.{List}
 use mathlib.Core.Bool.{Bool, true, false}
 use Prim.Native.Nat.{ℕ, _+_, _-_, _≤_}
 use native.Mathlib.Omega.{arith}
@@ -8,14 +8,8 @@ use borrow.Author.Tests.{le-leb, lt-leb, leb-true, leb-false}
 use lib.Dec.{leb}
 use lib.ListN.{length}
 use Rattle.digits.specs.Puts.{Put}
-use Rattle.lines.specs.declared.BunchLine.{BunchLine}
 use Rattle.lines.specs.declared.Line.{Line}
-use Rattle.lines.specs.Lines.{bunchLine, lineRoom, lineAnswers, lineLeaves}
-use Rattle.lines.specs.Halves.{bunchNames, bunchPayload}
-
-pub halves : (b : BunchLine) → bunchNames b ++ bunchPayload b ≡ bunchLine b
-unfolding bunchLine
-halves b = simp append-assoc
+use Rattle.lines.specs.Lines.{lineRoom, lineAnswers, lineLeaves}
 
 -- what the public calls answer and leave
 module _ (out : List ℕ) (at : ℕ) (text : List ℕ) where
