@@ -1,7 +1,6 @@
 // The accumulator's calls by their numbers in the list.
 ghost use Prim.Native.Nat.{_+_, _^_, _≤_, _<_};
 ghost use lib.ListN.{length};
-use crate::answers;
 use draining::Listed;
 use exports_bunch::adding;
 use exports_bunch::drains;
@@ -9,6 +8,7 @@ use exports_bunch::handing;
 use exports_bunch::opening;
 use places::Place;
 use recorded::inner;
+use replay_lent::inner::answers;
 use words::HeaderWords;
 
 struct Given {

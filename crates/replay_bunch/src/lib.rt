@@ -6,10 +6,10 @@ ghost use lib.ListN.{length};
 use draining::Listed;
 use places::Place;
 use recorded::inner;
+use replay_lent::inner::answers;
+use replay_lent::inner::lent;
 
-mod answers;
 mod calls;
-mod lent;
 
 // Our call, on memory as it stood.
 fn answered(

@@ -1,7 +1,10 @@
 // What is lent, as a record has it: the words of channels, places and list, then arena and output, one behind the other.
+ghost use mathlib.Core.Path.{_≡_};
+ghost use mathlib.Core.Bool.{true};
 ghost use Prim.Native.Nat.{_+_, _*_, _^_, _≤_, _<_};
 ghost use lib.ListN.{length};
-use crate::answers;
+ghost use Rattle.replay_lent.specs.Lent.{Lent};
+use crate::inner::answers;
 use draining::Listed;
 use places::Place;
 
@@ -96,7 +99,7 @@ fn same_words(
     true
 }
 
-pub(crate) fn load(
+pub fn load(
     line: &[u8],
     at: usize,
     channels: &mut [u32],
@@ -106,6 +109,7 @@ pub(crate) fn load(
     output: &mut [u8],
 )
     requires { ⌜ (at + (2 * length (now channels) + 48 * length (now places) + 44 * length (now list) + length (now arena) + length (now output)) ≤ length (now line)) × (length (now line) < 2 ^ 18) ⌝ }
+    ensures { λ r. ⌜ Lent (now (line .entry)) (at + 2 * (length (now (channels .entry)) + 24 * length (now (places .entry)) + 22 * length (now (list .entry)))) (length (now (arena .entry))) (length (now (output .entry))) (now (arena .exit)) (now (output .exit)) ⌝ }
 {
     let count = channels.len() + 24 * places.len() + 22 * list.len();
     let first = at + 2 * count;
@@ -116,7 +120,7 @@ pub(crate) fn load(
     bytes::copy(&line[second..end], output);
 }
 
-pub(crate) fn same(
+pub fn same(
     line: &[u8],
     at: usize,
     channels: &[u32],
@@ -126,6 +130,7 @@ pub(crate) fn same(
     output: &[u8],
 ) -> bool
     requires { ⌜ (at + (2 * length (now channels) + 48 * length (now places) + 44 * length (now list) + length (now arena) + length (now output)) ≤ length (now line)) × (length (now line) < 2 ^ 18) ⌝ }
+    ensures { λ r. ⌜ (r ≡ true → Lent (now (line .entry)) (at + 2 * (length (now (channels .entry)) + 24 * length (now (places .entry)) + 22 * length (now (list .entry)))) (length (now (arena .entry))) (length (now (output .entry))) (now (arena .entry)) (now (output .entry))) ⌝ }
 {
     let count = channels.len() + 24 * places.len() + 22 * list.len();
     let first = at + 2 * count;

@@ -1,8 +1,8 @@
 -- Every need is arithmetic on the word's number, which is at most 79.
 use Prim.Native.Nat.{_≤_, _-_}
 use borrow.Author.Needs.{needs}
-use Rattle.replay_bunch.proofs.answers.same_answer.Statement.{statement}
-use Rattle.replay_bunch.proofs.answers.same_answer.Tie as tie
+use Rattle.replay_lent.proofs.inner.answers.same_answer.Statement.{statement}
+use Rattle.replay_lent.proofs.inner.answers.same_answer.Tie as tie
 
 abbrev Inv-loop : tie.InvT-loop
 Inv-loop line first rest count out i₀ i = i ≤ 79

@@ -1,8 +1,8 @@
 -- Every need is arithmetic on the word's number.
 use Prim.Native.Nat.{_≤_, _-_}
 use borrow.Author.Needs.{needs}
-use Rattle.replay_bunch.proofs.lent.same_words.Statement.{statement}
-use Rattle.replay_bunch.proofs.lent.same_words.Tie as tie
+use Rattle.replay_lent.proofs.inner.lent.same_words.Statement.{statement}
+use Rattle.replay_lent.proofs.inner.lent.same_words.Tie as tie
 
 abbrev Inv-loop : tie.InvT-loop
 Inv-loop line at count channels places list i₀ i = i ≤ count

@@ -1,9 +1,11 @@
 // Words of 16 bits in a record, and the answer's words.
-ghost use Prim.Native.Nat.{_^_, _<_};
+ghost use mathlib.Core.Path.{_≡_};
+ghost use mathlib.Core.Bool.{false};
+ghost use Prim.Native.Nat.{_^_, _≤_, _<_};
 use recorded::inner;
 
 // A word from 2^15 on stands for one around 2^31.
-pub(crate) fn short(line: &[u8], at: usize) -> u64
+pub fn short(line: &[u8], at: usize) -> u64
     requires { ⌜ at < 2 ^ 32 ⌝ }
     ensures { λ r. ⌜ r < 2 ^ 32 ⌝ }
 {
@@ -17,7 +19,7 @@ pub(crate) fn short(line: &[u8], at: usize) -> u64
 
 // Where the answer's eighth word stands in a record's data: behind the sizes, the payload and, of an add, the header's words.
 pub(crate) fn rest_of(line: &[u8]) -> usize
-    ensures { λ r. ⌜ r < 512 ⌝ }
+    ensures { λ r. ⌜ (8 ≤ r) × (r < 512) ⌝ }
 {
     let payload = inner::byte(line, 3);
     if inner::byte(line, 0) == 30 {
@@ -54,8 +56,9 @@ fn same_answer(line: &[u8], first: usize, rest: usize, count: usize, out: &[u64;
 }
 
 // Data that ends before these words, in the middle of one or behind the last that an answer has is no record's.
-pub(crate) fn same(line: &[u8], n: usize, m: usize, out: &[u64; 79]) -> bool
+pub fn same(line: &[u8], n: usize, m: usize, out: &[u64; 79]) -> bool
     requires { ⌜ (n < 2 ^ 16) × (m < 256) ⌝ }
+    ensures { λ r. ⌜ (n < 5 → r ≡ false) ⌝ }
 {
     let rest = rest_of(line);
     let end = 3 + n;

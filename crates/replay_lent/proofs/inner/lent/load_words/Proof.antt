@@ -3,8 +3,8 @@ use Prim.Native.Nat.{_≤_, _-_}
 use mathlib.Core.Path.{_≡_}
 use lib.ListN.{length}
 use borrow.Author.Needs.{needs}
-use Rattle.replay_bunch.proofs.lent.load_words.Statement.{statement}
-use Rattle.replay_bunch.proofs.lent.load_words.Tie as tie
+use Rattle.replay_lent.proofs.inner.lent.load_words.Statement.{statement}
+use Rattle.replay_lent.proofs.inner.lent.load_words.Tie as tie
 
 abbrev Inv-loop : tie.InvT-loop
 Inv-loop line at count channels₀ places₀ list₀ i₀ channels places list i = (i ≤ count) × (length channels ≡ length channels₀) × (length places ≡ length places₀) × (length list ≡ length list₀)
