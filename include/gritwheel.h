@@ -139,7 +139,7 @@ void gritwheel_skip_bits(const uint8_t *bytes, size_t n, uint64_t start, uint64_
 void gritwheel_skip_remaining(const uint8_t *bytes, size_t n, uint64_t start, uint64_t position, uint64_t length,
                               uint64_t out[GRITWHEEL_ANSWER_WORDS]);
 
-/* ---- The record walks (libexports.a) ------------------------------------------------------------------------------------
+/* ---- The record walks (libexports_field.a) ------------------------------------------------------------------------------
  *
  * A walk writes a record to each place of the lent list in order, and leaves the places after its last record as they were.
  * 1, 2, 3 and 14 keep the records already written; word 7 counts them, also then. Refusals in order: 7, 5, 15, then 1, 2, 3

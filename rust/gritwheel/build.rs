@@ -3,7 +3,7 @@
 use std::path::{Path, PathBuf};
 
 /// What `rt staticlib` makes, an archive for each part.
-const PARTS: [&str; 4] = ["exports", "exports_packet", "exports_writer", "exports_bunch"];
+const PARTS: [&str; 5] = ["exports", "exports_field", "exports_packet", "exports_writer", "exports_bunch"];
 
 /// What an installation has instead: all in one.
 const WHOLE: &str = "gritwheel";
@@ -48,7 +48,7 @@ fn main() {
     println!(
         "cargo::error=Make it in the repository's root: for c in {}; do rt staticlib $c; done \
          (for x86-64 Linux). Or name its folder in GRITWHEEL_LIB_DIR: one with libgritwheel.a, \
-         or with these four.",
+         or with these five.",
         PARTS.join(" ")
     );
 }

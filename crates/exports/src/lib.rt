@@ -1,5 +1,4 @@
-// The bit reader's and the walks' calls for C and Rust: numbers and slices in, each answer as words (crates/answers).
+// The bit reader's calls for C and Rust: numbers and slices in, each answer as words (crates/answers).
 pub mod copies;
 pub mod reads;
-pub mod walks;
 pub mod windows;

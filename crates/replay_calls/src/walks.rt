@@ -3,7 +3,6 @@ ghost use mathlib.Core.Path.{_≡_};
 ghost use Prim.Native.Nat.{_+_, _*_, _≤_, _<_};
 ghost use lib.ListN.{length};
 use crate::calls::Given;
-use exports::walks;
 use recorded::inner;
 
 type Place = [u64; 4];
@@ -61,8 +60,8 @@ fn walk(call: u8, data: &[u8], given: Given, places: &mut [Place], out: &mut [u6
     }
     let count = given.argument as u32;
     match call {
-        22 => walks::gritwheel_parse_rep_layout(data, start, position, length, places, out),
-        23 => walks::gritwheel_parse_rep_layout_content_block(
+        22 => exports_field::gritwheel_parse_rep_layout(data, start, position, length, places, out),
+        23 => exports_field::gritwheel_parse_rep_layout_content_block(
             data,
             start,
             position,
@@ -70,7 +69,7 @@ fn walk(call: u8, data: &[u8], given: Given, places: &mut [Place], out: &mut [u6
             places,
             out,
         ),
-        _ => walks::gritwheel_parse_class_net_cache(
+        _ => exports_field::gritwheel_parse_class_net_cache(
             data,
             start,
             position,

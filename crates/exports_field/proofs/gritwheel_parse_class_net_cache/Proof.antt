@@ -1,8 +1,8 @@
 -- The words of what the call answers, and what it left in the list.
 use borrow.Author.Needs.{needs}
-use Rattle.exports.proofs.Told.{told}
-use Rattle.exports.proofs.walks.gritwheel_parse_class_net_cache.Statement.{statement}
-use Rattle.exports.proofs.walks.gritwheel_parse_class_net_cache.Tie as tie
+use Rattle.exports_field.proofs.Told.{told}
+use Rattle.exports_field.proofs.gritwheel_parse_class_net_cache.Statement.{statement}
+use Rattle.exports_field.proofs.gritwheel_parse_class_net_cache.Tie as tie
 
 returns : tie.Need-returns
 returns c = told (c .before .before .parse-class-net-cache .result) (rw (c .before .before .before .before .window-at .ensures) at (c .before .before .parse-class-net-cache .ensures)) (c .of-walk .ensures)

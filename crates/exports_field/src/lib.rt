@@ -1,4 +1,4 @@
-// The record walks. Each writes a place of four numbers for each record, and the eight words of its answer.
+// The record walks for C and Rust. Each writes a place of four numbers for each record, and the eight words of its answer.
 ghost use mathlib.Core.Path.{_≡_};
 ghost use mathlib.Core.Bool.{true, false};
 ghost use Rattle.field.specs.Walks.{parseRepLayout, parseClassNetCache};
