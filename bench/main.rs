@@ -58,9 +58,8 @@ fn main() {
         std::process::exit(2);
     };
     timing.title();
-    // First, while the heap is empty.
     #[cfg(bunch)]
-    chains::run(&timing);
+    chains::run(&timing, "first");
     #[cfg(loops)]
     loops::run(&timing);
     #[cfg(singles)]
@@ -71,4 +70,6 @@ fn main() {
     }
     #[cfg(writes)]
     writes::run(&timing);
+    #[cfg(bunch)]
+    chains::run(&timing, "last");
 }

@@ -34,26 +34,13 @@ pub type DrainedOut = [u64; 6];
 /// A writing call's: 0 and up to which bit the packet is written, or the refusal's number and what it returns.
 pub type WriteOut = [u64; 3];
 
-macro_rules! adding {
-    ($($name:ident($($used:ident: usize)?) $(-> $left:ty)?;)*) => {
-        unsafe extern "C" {
-            $(pub fn $name(
-                max_active: usize, max_buffered_bits: u64, active: usize, total: u64, $($used: usize,)? ch_index: u32,
-                header: *const [u64; 20], payload: *const u8, n: usize, bits: u64, channels: *mut u32, i: usize,
-                places: *mut [u64; 24], j: usize, arena: *mut u8, k: usize, output: *mut u8, l: usize, out: *mut FragmentOut,
-            ) $(-> $left)?;)*
-        }
-    };
-}
-
 macro_rules! handing {
-    ($($name:ident($($used:ident: usize)?) $(-> $left:ty)?;)*) => {
+    ($($name:ident;)*) => {
         unsafe extern "C" {
             $(pub fn $name(
-                max_active: usize, max_buffered_bits: u64, active: usize, total: u64, $($used: usize,)? ch_index: u32,
-                channels: *mut u32, i: usize, places: *mut [u64; 24], j: usize, arena: *mut u8, k: usize, output: *mut u8,
-                l: usize, out: *mut HandedOut,
-            ) $(-> $left)?;)*
+                max_active: usize, max_buffered_bits: u64, active: usize, total: u64, ch_index: u32, channels: *mut u32, i: usize,
+                places: *mut [u64; 24], j: usize, arena: *mut u8, k: usize, output: *mut u8, l: usize, out: *mut HandedOut,
+            );)*
         }
     };
 }
@@ -102,6 +89,12 @@ unsafe extern "C" {
         arena: *const u8, k: usize, out: *mut LimitsOut,
     );
     #[rustfmt::skip]
+    pub fn gritwheel_add_fragment(
+        max_active: usize, max_buffered_bits: u64, active: usize, total: u64, ch_index: u32, header: *const [u64; 20],
+        payload: *const u8, n: usize, bits: u64, channels: *mut u32, i: usize, places: *mut [u64; 24], j: usize, arena: *mut u8,
+        k: usize, output: *mut u8, l: usize, out: *mut FragmentOut,
+    );
+    #[rustfmt::skip]
     pub fn gritwheel_drain_unfinished(
         max_active: usize, max_buffered_bits: u64, active: usize, total: u64, channels: *const u32, i: usize,
         places: *const [u64; 24], j: usize, arena: *const u8, k: usize, output: *mut u8, l: usize, list: *mut [u64; 22], m: usize,
@@ -109,25 +102,21 @@ unsafe extern "C" {
     );
 }
 
-adding! {
-    gritwheel_add_fragment();
-}
-
 handing! {
-    gritwheel_take_completed();
-    gritwheel_retire_channel();
+    gritwheel_take_completed;
+    gritwheel_retire_channel;
 }
 
-// The inner forms, over memory that was tested, which only the timing program calls: they take and answer how many bytes of the
-// arena are used.
+// Many fragments in a row over memory that was tested, which only the timing program calls: it takes and answers how many bytes of
+// the arena are used.
 #[cfg(chains)]
-adding! {
-    timing_add_fragment(used: usize) -> usize;
-}
-
-#[cfg(chains)]
-handing! {
-    timing_take_completed(used: usize) -> usize;
+unsafe extern "C" {
+    #[rustfmt::skip]
+    pub fn timing_chains(
+        max_active: usize, max_buffered_bits: u64, active: usize, total: u64, used: usize, headers: *const [u64; 20], h: usize,
+        payloads: *const u8, p: usize, channels: *mut u32, i: usize, places: *mut [u64; 24], j: usize, arena: *mut u8, k: usize,
+        output: *mut u8, l: usize, out: *mut [u64; 3],
+    ) -> usize;
 }
 
 reads! {

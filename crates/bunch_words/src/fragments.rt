@@ -66,7 +66,7 @@ fn cause_value(c: PartialDiscardCause) -> u64
     }
 }
 
-fn of_result(r: PartialBunchResult) -> ResultWords
+pub fn of_result(r: PartialBunchResult) -> ResultWords
     ensures { λ x. ⌜ x ≡ resultWords r ⌝ }
 {
     let errors = r.errors as u64;

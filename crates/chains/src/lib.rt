@@ -1,2 +1,2 @@
-// The accumulator's calls over memory that was tested, for bench/ to time.
+// Chains of fragments in a row, for bench/ to time.
 pub mod inner;

@@ -35,14 +35,14 @@ module _ {A : Type 0} where
   take-before (suc k) (suc q) b (y ∷ m) g h = ap (λ (t : List A). y ∷ t) (take-before k q b m (omega arith) (omega arith))
 
   -- what stands before what is pasted is as it was
-  part-before : (p k q : ℕ) (b m : List A) → p + k ≤ q → q ≤ length m → part p k (pasted q b m) ≡ part p k m
+  pub part-before : (p k q : ℕ) (b m : List A) → p + k ≤ q → q ≤ length m → part p k (pasted q b m) ≡ part p k m
   unfolding pasted
   part-before zero k q b m g h = take-before k q b m (omega arith) h
   part-before (suc p) k zero b m g h = absurd (omega arith)
   part-before (suc p) k (suc q) b [] g h = absurd (omega arith)
   part-before (suc p) k (suc q) b (y ∷ m) g h = part-before p k q b m (omega arith) (omega arith)
 
-  parts-join : (p k l : ℕ) (m : List A) → part p k m ++ part (p + k) l m ≡ part p (k + l) m
+  pub parts-join : (p k l : ℕ) (m : List A) → part p k m ++ part (p + k) l m ≡ part p (k + l) m
   parts-join p k l m = sym (take-add k l (drop p m) ∙ ap (λ (t : List A). part p k m ++ take l t) (drop-drop k p m))
 
   laid-behind : (b c m : List A) → length b ≤ length m → pasted (length b) c (laid b m) ≡ laid (b ++ c) m
@@ -76,7 +76,7 @@ module _ {A : Type 0} where
   drop-laid (suc p) (x ∷ b) [] g h = absurd (not-suc-le-zero h)
   drop-laid (suc p) (x ∷ b) (y ∷ m) g h = drop-laid p b m (le-of-suc-le-suc g) (le-of-suc-le-suc h)
 
-  drop-behind : (p at : ℕ) (b m : List A) → at + length b ≤ p → p ≤ length m → drop p (pasted at b m) ≡ drop p m
+  pub drop-behind : (p at : ℕ) (b m : List A) → at + length b ≤ p → p ≤ length m → drop p (pasted at b m) ≡ drop p m
   unfolding pasted
   drop-behind p zero b m g h = drop-laid p b m (omega arith) h
   drop-behind zero (suc at) b m g h = absurd (omega arith)

@@ -62,14 +62,22 @@ fn move_block(arena: &mut [u8], from: usize, to: usize)
     copy_by_bytes(&block, 0, 256, arena, to);
 }
 
+// In blocks; where they move that far, the last may write some bytes once more, and what is left over takes no loop.
 fn move_down(arena: &mut [u8], from: usize, to: usize, n: usize)
     requires { ⌜ (to ≤ from) × (from + n ≤ length (now arena)) ⌝ }
     ensures { λ r. ⌜ now (arena .exit) ≡ pasted to (part from n (now (arena .entry))) (now (arena .entry)) ⌝ }
 {
     let mut i: usize = 0;
-    while 256 <= n - i {
+    while 256 < n - i {
         move_block(arena, from + i, to + i);
         i += 256;
+    }
+    if 256 <= n {
+        if 256 <= from - to {
+            let last = n - 256;
+            move_block(arena, from + last, to + last);
+            return;
+        }
     }
     move_down_by_bytes(arena, from + i, to + i, n - i);
 }
@@ -79,9 +87,15 @@ fn move_up(arena: &mut [u8], from: usize, to: usize, n: usize)
     ensures { λ r. ⌜ now (arena .exit) ≡ pasted to (part from n (now (arena .entry))) (now (arena .entry)) ⌝ }
 {
     let mut i = n;
-    while 256 <= i {
+    while 256 < i {
         i -= 256;
         move_block(arena, from + i, to + i);
+    }
+    if 256 <= n {
+        if 256 <= to - from {
+            move_block(arena, from, to);
+            return;
+        }
     }
     move_up_by_bytes(arena, from, to, i);
 }
@@ -109,17 +123,22 @@ fn copy_by_bytes(src: &[u8], from: usize, n: usize, out: &mut [u8], at: usize)
     }
 }
 
-// Blocks of a known length, which the compiler makes straight code of.
+// Blocks of a known length, which the compiler makes straight code of; the last ends where all ends, and writes some bytes once more.
 pub fn copy_bytes(src: &[u8], from: usize, n: usize, out: &mut [u8], at: usize)
     requires { ⌜ (from + n ≤ length (now src)) × (at + n ≤ length (now out)) ⌝ }
     ensures { λ r. ⌜ now (out .exit) ≡ pasted at (part from n (now (src .entry))) (now (out .entry)) ⌝ }
 {
+    if n < 256 {
+        copy_by_bytes(src, from, n, out, at);
+        return;
+    }
+    let last = n - 256;
     let mut i: usize = 0;
-    while 256 <= n - i {
+    while i < last {
         copy_by_bytes(src, from + i, 256, out, at + i);
         i += 256;
     }
-    copy_by_bytes(src, from + i, n - i, out, at + i);
+    copy_by_bytes(src, from + last, 256, out, at + last);
 }
 
 fn low(byte: u8, n: u64) -> u8

@@ -1,4 +1,4 @@
--- The first i bytes have moved: a turn is Blocks' `moves-block-down`, and what is left is `moves-rest-down`.
+-- The first i bytes have moved: a turn is Blocks' `moves-block-down`; what is left is one block more, or `moves-rest-down`.
 use mathlib.Core.Path.{_≡_, refl, _∙_}
 use Prim.Native.Nat.{_+_, _-_, _≤_}
 use native.Mathlib.Omega.{arith}
@@ -7,6 +7,7 @@ use borrow.Author.Needs.{needs}
 use Rattle.places.specs.Bytes.{pasted, part}
 use Rattle.places.proofs.Pastes.{pasted-none}
 use Rattle.places.proofs.Blocks.{moves-block-down, moves-rest-down, length-block}
+use Rattle.places.proofs.Overlaps.{moves-over-down}
 use Rattle.places.proofs.inner.move_down.Statement.{statement}
 use Rattle.places.proofs.inner.move_down.Tie as tie
 
@@ -27,14 +28,26 @@ loop-again c =
 
 same-length : tie.Need-same-length Inv-loop μ-loop
 same-length c =
-    let l = c .before .before .before .before .before .loop in
-    let a = c .before .before .before .before .before .before .before .args in
-    length-block (a .to + l .i) (a .from + l .i) (a .n - l .i) (l .arena) (l .arena) (omega (arith, l .inv .1)) (omega (arith, l .inv .1)) (c .before .before .move-down-by-bytes .ensures) ∙ l .inv .1
+    let l = c .before .before .before .before .before .before .before .loop in
+    let a = c .before .before .before .before .before .before .before .before .before .args in
+    length-block (a .to + (a .n - 256)) (a .from + (a .n - 256)) 256 (l .arena) (l .arena) (omega (arith, l .inv .1)) (omega (arith, l .inv .1)) (c .before .before .move-block2 .ensures) ∙ l .inv .1
 
 returns : tie.Need-returns Inv-loop μ-loop
 returns c =
-    let l = c .before .before .before .before .before .loop in
-    let a = c .before .before .before .before .before .before .before .args in
+    let l = c .before .before .before .before .before .before .before .loop in
+    let a = c .before .before .before .before .before .before .before .before .before .args in
+    moves-over-down (a .from) (a .to) (a .n) (l .i) 256 (a .arena .now) (omega arith) (omega arith) (l .inv .0) (omega arith) (omega arith) (l .inv .2) (c .before .before .move-block2 .ensures)
+
+same-length-2 : tie.Need-same-length-2 Inv-loop μ-loop
+same-length-2 c =
+    let l = c .before .before .before .before .before .before .loop in
+    let a = c .before .before .before .before .before .before .before .before .args in
+    length-block (a .to + l .i) (a .from + l .i) (a .n - l .i) (l .arena) (l .arena) (omega (arith, l .inv .1)) (omega (arith, l .inv .1)) (c .before .before .move-down-by-bytes .ensures) ∙ l .inv .1
+
+returns-2 : tie.Need-returns-2 Inv-loop μ-loop
+returns-2 c =
+    let l = c .before .before .before .before .before .before .loop in
+    let a = c .before .before .before .before .before .before .before .before .args in
     moves-rest-down (a .from) (a .to) (a .n) (l .i) (a .arena .now) (l .inv .0) (omega arith) (omega arith) (l .inv .2) (c .before .before .move-down-by-bytes .ensures)
 
 pub move-down-spec : {M : Type 1} → statement M
@@ -56,4 +69,10 @@ move-down-spec =
     (λ c. search needs)
     (λ c κs. search needs)
     same-length
-    returns)
+    returns
+    (λ c. search needs)
+    (λ c. search needs)
+    (λ c. search needs)
+    (λ c κs. search needs)
+    same-length-2
+    returns-2)

@@ -1,4 +1,4 @@
--- The bytes from i on have moved: a turn is Blocks' `moves-block`, and so is what is left, as a block of i bytes.
+-- The bytes from i on have moved: a turn is Blocks' `moves-block`; what is left is one block more, or a block of i bytes.
 use mathlib.Core.Path.{_≡_, refl, _∙_}
 use Prim.Native.Nat.{_+_, _-_, _≤_}
 use native.Mathlib.Omega.{arith}
@@ -6,6 +6,7 @@ use lib.ListN.{length}
 use borrow.Author.Needs.{needs}
 use Rattle.places.proofs.Pastes.{MovedFrom, moves-none}
 use Rattle.places.proofs.Blocks.{moves-block, moves-rest, length-block}
+use Rattle.places.proofs.Overlaps.{moves-over}
 use Rattle.places.proofs.inner.move_up.Statement.{statement}
 use Rattle.places.proofs.inner.move_up.Tie as tie
 
@@ -27,14 +28,26 @@ loop-again c =
 
 same-length : tie.Need-same-length Inv-loop μ-loop
 same-length c =
-    let l = c .before .before .before .before .before .loop in
-    let a = c .before .before .before .before .before .before .before .args in
-    length-block (a .to) (a .from) (l .i) (l .arena) (l .arena) (omega (arith, l .inv .1)) (omega (arith, l .inv .1)) (c .before .before .move-up-by-bytes .ensures) ∙ l .inv .1
+    let l = c .before .before .before .before .before .before .before .loop in
+    let a = c .before .before .before .before .before .before .before .before .before .args in
+    length-block (a .to) (a .from) 256 (l .arena) (l .arena) (omega (arith, l .inv .1)) (omega (arith, l .inv .1)) (c .before .before .move-block2 .ensures) ∙ l .inv .1
 
 returns : tie.Need-returns Inv-loop μ-loop
 returns c =
-    let l = c .before .before .before .before .before .loop in
-    let a = c .before .before .before .before .before .before .before .args in
+    let l = c .before .before .before .before .before .before .before .loop in
+    let a = c .before .before .before .before .before .before .before .before .before .args in
+    moves-over (a .from) (a .to) (a .n) (l .i) 256 (a .arena .now) (omega arith) (omega arith) (omega arith) (omega arith) (l .inv .2) (c .before .before .move-block2 .ensures)
+
+same-length-2 : tie.Need-same-length-2 Inv-loop μ-loop
+same-length-2 c =
+    let l = c .before .before .before .before .before .before .loop in
+    let a = c .before .before .before .before .before .before .before .before .args in
+    length-block (a .to) (a .from) (l .i) (l .arena) (l .arena) (omega (arith, l .inv .1)) (omega (arith, l .inv .1)) (c .before .before .move-up-by-bytes .ensures) ∙ l .inv .1
+
+returns-2 : tie.Need-returns-2 Inv-loop μ-loop
+returns-2 c =
+    let l = c .before .before .before .before .before .before .loop in
+    let a = c .before .before .before .before .before .before .before .before .args in
     moves-rest (a .from) (a .to) (a .n) (l .i) (a .arena .now) (omega arith) (omega arith) (omega arith) (l .inv .2) (c .before .before .move-up-by-bytes .ensures)
 
 pub move-up-spec : {M : Type 1} → statement M
@@ -46,9 +59,14 @@ move-up-spec =
     loop-holds
     (λ c. search needs)
     (λ c. search needs)
+    (λ c. search needs)
     (λ c κs. search needs)
     (λ c. search needs)
     loop-again
+    (λ c. search needs)
     (λ c κs. search needs)
     same-length
-    returns)
+    returns
+    (λ c κs. search needs)
+    same-length-2
+    returns-2)

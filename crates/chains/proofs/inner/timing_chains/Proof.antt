@@ -1,0 +1,70 @@
+-- What is still to come is what the whole comes to, over memory that the next turn can go on with.
+use Prim.Native.Nat.{ℕ, _+_, _*_, _-_, _%_}
+use mathlib.Core.Path.{_≡_, refl, ap, sym, _∙_}
+use mathlib.Core.List.{List, []}
+use native.Mathlib.Omega.{arith}
+use lib.ListN.{length, getD}
+use borrow.Author.Needs.{needs}
+use Rattle.held.specs.Memory.{memory}
+use Rattle.settling.specs.Settling.{Using}
+use Rattle.chains.specs.Chains.{Run, run, turn, turns, payloadOf, chains, said}
+use Rattle.chains.proofs.Running.{turn-on, turns-end, turns-begin}
+use Rattle.chains.proofs.inner.timing_chains.Statement.{statement}
+use Rattle.chains.proofs.inner.timing_chains.Tie as tie
+
+abbrev going : List ℕ → List (List ℕ) → ℕ → Run → Run
+going payloads headers k = turn (payloadOf payloads k) (getD headers k [])
+
+abbrev Inv-loop : tie.InvT-loop
+Inv-loop max-active max-buffered-bits active total-buffered-bits used-before headers payloads channels₀ places₀ arena₀ output₀ out a₀ used₀ sum₀ k₀ channels places arena output a used sum k =
+    (turns (going payloads headers) (length headers - k) k (run a (memory channels places arena) output sum) ≡ chains payloads headers (run a₀ (memory channels₀ places₀ arena₀) output₀ sum₀))
+    × (Using a (memory channels places arena) used × ((length channels ≡ length channels₀) × ((length places ≡ length places₀) × ((length arena ≡ length arena₀) × (length output ≡ length output₀)))))
+
+abbrev μ-loop : tie.MeasureT-loop
+μ-loop max-active max-buffered-bits active total-buffered-bits used-before headers payloads channels₀ places₀ arena₀ output₀ out a₀ used₀ sum₀ k₀ channels places arena output a used sum k = length headers - k
+
+loop-holds : tie.Need-loop-holds Inv-loop μ-loop
+loop-holds c = (turns-begin _ _ _, (search needs, (refl, (refl, (refl, refl)))))
+
+loop-again : tie.Need-loop-again Inv-loop μ-loop
+loop-again c =
+    let o = c .before .before .before .before .before .before .before .before .before in
+    let l = o .before .before .before .before .before .before .before .before .loop in
+    let x = o .before .before .before .before .before .before .before .before .before .before .before .before .before .args in
+    let n = length (x .headers .now) in
+    let cut : l .k % 61 * 1000 + 1000 - l .k % 61 * 1000 ≡ 1000 = omega arith in (
+      ap (turns (going (x .payloads .now) (x .headers .now)) (n - (l .k + 1)) (l .k + 1)) (rw cut at (o .one .ensures .0))
+          ∙ turn-on (going (x .payloads .now) (x .headers .now)) n (l .k) (run (l .a) (memory (l .channels) (l .places) (l .arena)) (l .output) (l .sum)) (l .inv .0) (search needs),
+      (o .one .ensures .1, (search needs, (search needs, (search needs, search needs)))),
+    )
+
+returns : tie.Need-returns Inv-loop μ-loop
+returns c =
+    let l = c .before .before .loop in
+    let x = c .before .before .before .before .before .before .before .args in
+    let e = turns-end (going (x .payloads .now) (x .headers .now)) (length (x .headers .now)) (l .k) (run (l .a) (memory (l .channels) (l .places) (l .arena)) (l .output) (l .sum)) (l .inv .0) (search needs) in
+    (ap said e, (ap (λ (z : Run). z .memory) e, (ap (λ (z : Run). z .output) e, rw (sym (ap (λ (z : Run). z .accumulator) e)) (l .inv .1 .0))))
+
+pub timing-chains-spec : {M : Type 1} → statement M
+timing-chains-spec =
+    tie.close
+    (tie.spec
+    Inv-loop
+    μ-loop
+    loop-holds
+    (λ c. search needs)
+    (λ c. search needs)
+    (λ c. search needs)
+    (λ c. search needs)
+    (λ c. search needs)
+    (λ c. search needs)
+    (λ c. search needs)
+    (λ c. search needs)
+    (λ c κs. search needs)
+    (λ c. search needs)
+    loop-again
+    (λ c. search needs)
+    (λ c. search needs)
+    (λ c. search needs)
+    (λ c. search needs)
+    returns)
