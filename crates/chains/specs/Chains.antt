@@ -1,5 +1,6 @@
 -- What many calls in a row come to: the state that they leave, and the sum of their answers' words.
 use Prim.Native.Nat.{ℕ, zero, suc, _+_, _*_, _%_, _^_}
+use mathlib.Core.Path.{_≡_}
 use mathlib.Core.Bool.{cond}
 use mathlib.Core.List.{List, [], _∷_}
 use lib.ListN.{length, getD, take, drop}
@@ -8,6 +9,7 @@ use Rattle.held.specs.declared.Accumulator.{Accumulator}
 use Rattle.held.specs.Memory.{Memory}
 use Rattle.held.specs.Steps.{Act, adding, taking, Answer, refused, judged, handed, nothing}
 use Rattle.held.specs.Calls.{Reply, called}
+use Rattle.settling.specs.Settling.{Using}
 use Rattle.bunch_words.specs.Fragments.{resultWords}
 
 unfoldable pub summed : ℕ → List ℕ → ℕ
@@ -56,6 +58,10 @@ turns go (suc n) k x = turns go n (k + 1) (go k x)
 abbrev pub chains : List ℕ → List (List ℕ) → Run → Run
 chains payloads headers x = turns (λ k. turn (payloadOf payloads k) (getD headers k [])) (length headers) 0 x
 
--- the sum, how many messages are live, and their bits
-abbrev pub said : Run → List ℕ
-said x = x .sum ∷ x .accumulator .active ∷ x .accumulator .«total_buffered_bits» ∷ []
+-- what is said and left at the end: the sum, how many messages are live and their bits; and the memory, with how much of its arena
+-- is used
+pub record Ends (x : Run) (out : List ℕ) (m : Memory) (output : List ℕ) (used : ℕ) : Type 0 where
+  pub said : out ≡ x .sum ∷ x .accumulator .active ∷ x .accumulator .«total_buffered_bits» ∷ []
+  pub leaves : m ≡ x .memory
+  pub writes : output ≡ x .output
+  pub goes-on : Using (x .accumulator) m used

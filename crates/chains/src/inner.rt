@@ -1,14 +1,14 @@
 // Many fragments added, and each finished message taken, in one call and without the test of the memory: as a program of Rattle
 // goes on with what each call leaves.
 ghost use mathlib.Core.Path.{_≡_};
-ghost use Prim.Native.Nat.{ℕ, _*_, _≤_};
+ghost use Prim.Native.Nat.{_≤_};
 ghost use lib.ListN.{length};
 ghost use Rattle.held.specs.Memory.{memory};
 ghost use Rattle.held.specs.Steps.{adding, taking};
 ghost use Rattle.settling.specs.Settling.{Using};
 ghost use Rattle.joining.specs.Answers.{ofJudged};
 ghost use Rattle.taking.specs.Answers.{ofHanded};
-ghost use Rattle.chains.specs.Chains.{summed, answerWords, run, call, turn, chains, said};
+ghost use Rattle.chains.specs.Chains.{summed, answerWords, run, call, turn, chains, Ends};
 use bunch_words::fragments::of_result;
 use held::Accumulator;
 use joining::Judged;
@@ -186,10 +186,7 @@ pub extern "C" fn timing_chains(
     out: &mut [u64; 3],
 ) -> usize
     requires { ⌜ Using (record { «max_active» = «max_active»; «max_buffered_bits» = «max_buffered_bits»; active = active; «total_buffered_bits» = «total_buffered_bits» }) (memory (now channels) (now places) (now arena)) «used_before» × (61000 ≤ length (now payloads)) ⌝ }
-    ensures answers { λ r. ⌜ now (out .exit) ≡ said (chains (now (payloads .entry)) (now (headers .entry)) (run (record { «max_active» = «max_active»; «max_buffered_bits» = «max_buffered_bits»; active = active; «total_buffered_bits» = «total_buffered_bits» }) (memory (now (channels .entry)) (now (places .entry)) (now (arena .entry))) (now (output .entry)) 0)) ⌝ }
-    ensures leaves { λ r. ⌜ memory (now (channels .exit)) (now (places .exit)) (now (arena .exit)) ≡ chains (now (payloads .entry)) (now (headers .entry)) (run (record { «max_active» = «max_active»; «max_buffered_bits» = «max_buffered_bits»; active = active; «total_buffered_bits» = «total_buffered_bits» }) (memory (now (channels .entry)) (now (places .entry)) (now (arena .entry))) (now (output .entry)) 0) .memory ⌝ }
-    ensures writes { λ r. ⌜ now (output .exit) ≡ chains (now (payloads .entry)) (now (headers .entry)) (run (record { «max_active» = «max_active»; «max_buffered_bits» = «max_buffered_bits»; active = active; «total_buffered_bits» = «total_buffered_bits» }) (memory (now (channels .entry)) (now (places .entry)) (now (arena .entry))) (now (output .entry)) 0) .output ⌝ }
-    ensures goes_on { λ r. ⌜ Using (chains (now (payloads .entry)) (now (headers .entry)) (run (record { «max_active» = «max_active»; «max_buffered_bits» = «max_buffered_bits»; active = active; «total_buffered_bits» = «total_buffered_bits» }) (memory (now (channels .entry)) (now (places .entry)) (now (arena .entry))) (now (output .entry)) 0) .accumulator) (memory (now (channels .exit)) (now (places .exit)) (now (arena .exit))) r ⌝ }
+    ensures { λ r. ⌜ Ends (chains (now (payloads .entry)) (now (headers .entry)) (run (record { «max_active» = «max_active»; «max_buffered_bits» = «max_buffered_bits»; active = active; «total_buffered_bits» = «total_buffered_bits» }) (memory (now (channels .entry)) (now (places .entry)) (now (arena .entry))) (now (output .entry)) 0)) (now (out .exit)) (memory (now (channels .exit)) (now (places .exit)) (now (arena .exit))) (now (output .exit)) r ⌝ }
 {
     let mut a = Accumulator {
         max_active,

@@ -1,13 +1,13 @@
 -- What is still to come is what the whole comes to, over memory that the next turn can go on with.
 use Prim.Native.Nat.{ℕ, _+_, _*_, _-_, _%_}
 use mathlib.Core.Path.{_≡_, refl, ap, sym, _∙_}
-use mathlib.Core.List.{List, []}
+use mathlib.Core.List.{List, [], _∷_}
 use native.Mathlib.Omega.{arith}
 use lib.ListN.{length, getD}
 use borrow.Author.Needs.{needs}
 use Rattle.held.specs.Memory.{memory}
 use Rattle.settling.specs.Settling.{Using}
-use Rattle.chains.specs.Chains.{Run, run, turn, turns, payloadOf, chains, said}
+use Rattle.chains.specs.Chains.{Run, run, turn, turns, payloadOf, chains, Ends}
 use Rattle.chains.proofs.Running.{turn-on, turns-end, turns-begin}
 use Rattle.chains.proofs.inner.timing_chains.Statement.{statement}
 use Rattle.chains.proofs.inner.timing_chains.Tie as tie
@@ -43,7 +43,12 @@ returns c =
     let l = c .before .before .loop in
     let x = c .before .before .before .before .before .before .before .args in
     let e = turns-end (going (x .payloads .now) (x .headers .now)) (length (x .headers .now)) (l .k) (run (l .a) (memory (l .channels) (l .places) (l .arena)) (l .output) (l .sum)) (l .inv .0) (search needs) in
-    (ap said e, (ap (λ (z : Run). z .memory) e, (ap (λ (z : Run). z .output) e, rw (sym (ap (λ (z : Run). z .accumulator) e)) (l .inv .1 .0))))
+    record {
+      said = ap (λ (z : Run). z .sum ∷ z .accumulator .active ∷ z .accumulator .«total_buffered_bits» ∷ []) e;
+      leaves = ap (λ (z : Run). z .memory) e;
+      writes = ap (λ (z : Run). z .output) e;
+      goes-on = rw (sym (ap (λ (z : Run). z .accumulator) e)) (l .inv .1 .0);
+    }
 
 pub timing-chains-spec : {M : Type 1} → statement M
 timing-chains-spec =
