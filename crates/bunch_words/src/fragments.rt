@@ -2,7 +2,6 @@
 ghost use mathlib.Core.Path.{_≡_};
 ghost use mathlib.Core.List.{List, _∷_, _++_};
 ghost use Prim.Native.Nat.{ℕ};
-ghost use Rattle.words.specs.Words.{kindWord};
 ghost use Rattle.held.specs.Memory.{Memory};
 ghost use Rattle.joining.specs.Answers.{toldBy};
 ghost use Rattle.bunch.specs.Answers.{ofAdded};
@@ -17,7 +16,7 @@ use judging::Displacement;
 use judging::PartialBunchResult;
 use judging::PartialDiscardCause;
 use judging::PartialResourceLimit;
-use types::PartialSequenceKind;
+use words::kind_word;
 use words::of_header;
 
 pub type FragmentWords = [u64; 79];
@@ -25,18 +24,6 @@ pub type FragmentWords = [u64; 79];
 pub type ResultWords = [u64; 28];
 
 pub type DisplacedWords = [u64; 23];
-
-fn kind(k: PartialSequenceKind) -> u64
-    ensures { λ x. ⌜ x ≡ kindWord k ⌝ }
-{
-    match k {
-        PartialSequenceKind::None => 0,
-        PartialSequenceKind::MissingInitial => 1,
-        PartialSequenceKind::OverlappingInitial => 2,
-        PartialSequenceKind::MismatchedContinuation => 3,
-        PartialSequenceKind::NonByteAlignedFragment => 4,
-    }
-}
 
 fn limit(l: PartialResourceLimit) -> u64
     ensures { λ x. ⌜ x ≡ limitWord l ⌝ }
@@ -61,7 +48,7 @@ fn cause_value(c: PartialDiscardCause) -> u64
     ensures { λ x. ⌜ x ≡ causeValue c ⌝ }
 {
     match c {
-        PartialDiscardCause::Sequence(k) => kind(k),
+        PartialDiscardCause::Sequence(k) => kind_word(k),
         PartialDiscardCause::Resource(l) => limit(l),
     }
 }
@@ -77,7 +64,7 @@ pub fn of_result(r: PartialBunchResult) -> ResultWords
     let error_kind = r.error_kind;
     let h = of_header(header);
     let reached = limit(resource_limit);
-    let wrong = kind(error_kind);
+    let wrong = kind_word(error_kind);
     [
         h[0],
         h[1],

@@ -60,6 +60,9 @@ fn with_taken(sum: u64, answer: Handed) -> u64
     }
 }
 
+// The sum, how many messages are live, and their bits.
+pub type SumWords = [u64; 3];
+
 pub struct Turned {
     pub sum: u64,
     pub left: Settled,
@@ -169,7 +172,7 @@ fn one(
 }
 
 // The headers in turn; the payloads, 61 of 1,000 bytes each, round and round. It answers how many bytes of the arena are then
-// used, for the next call, and says the sum of all answers' words, how many messages are live and their bits.
+// used, for the next call.
 #[no_mangle]
 pub extern "C" fn timing_chains(
     max_active: usize,
@@ -183,7 +186,7 @@ pub extern "C" fn timing_chains(
     places: &mut [Place],
     arena: &mut [u8],
     output: &mut [u8],
-    out: &mut [u64; 3],
+    out: &mut SumWords,
 ) -> usize
     requires { ⌜ Using (record { «max_active» = «max_active»; «max_buffered_bits» = «max_buffered_bits»; active = active; «total_buffered_bits» = «total_buffered_bits» }) (memory (now channels) (now places) (now arena)) «used_before» × (61000 ≤ length (now payloads)) ⌝ }
     ensures { λ r. ⌜ Ends (chains (now (payloads .entry)) (now (headers .entry)) (run (record { «max_active» = «max_active»; «max_buffered_bits» = «max_buffered_bits»; active = active; «total_buffered_bits» = «total_buffered_bits» }) (memory (now (channels .entry)) (now (places .entry)) (now (arena .entry))) (now (output .entry)) 0)) (now (out .exit)) (memory (now (channels .exit)) (now (places .exit)) (now (arena .exit))) (now (output .exit)) r ⌝ }

@@ -94,48 +94,6 @@ module _ {limit live : ℕ} (ch : List ℕ) (fits : Fits limit live ch) where
       let h = same-bears 0 0 ch se re (lives fits) (roomy fits size) (roomy fits size') in
       record { within = omega (arith, h .size, fits .live-fits); ordered = rw (h .first) (fits .ascends) }
 
--- columns in which a table that is kept was laid
-pub record SequencesFit (limit : ℕ) (t : Table ℕ) (ch nu : List ℕ) : Type 0 where
-  pub fits : Fits limit (length t) (laid (channels t) ch)
-  pub channels-size : length (laid (channels t) ch) ≡ length ch
-  pub numbers-size : length (laid (values t) nu) ≡ length nu
-
-pub record PartialsFit (limit : ℕ) (t : Table Partial) (ch se re : List ℕ) : Type 0 where
-  pub fits : Fits limit (length t) (laid (channels t) ch)
-  pub channels-size : length (laid (channels t) ch) ≡ length ch
-  pub sequences-size : length (laid (channels (values t)) se) ≡ length se
-  pub reliables-size : length (laid (values (values t)) re) ≡ length re
-
-module _ {limit live : ℕ} (ch : List ℕ) (fits : Fits limit live ch) where
-  pub sequences-fit : (t : Table ℕ) → Kept limit t → (nu : List ℕ) → limit ≤ length nu → SequencesFit limit t ch nu
-  sequences-fit t kept nu size =
-      record {
-        fits = kept-fits t kept ch fits;
-        channels-size = kept-size t kept (channels t) ch (length-map t (λ (e : ℕ × ℕ). e .0)) (fits .room);
-        numbers-size = kept-size t kept (values t) nu (length-map t (λ (e : ℕ × ℕ). e .1)) size;
-      }
-
-  pub partials-fit : (t : Table Partial) → Kept limit t → (se re : List ℕ) → limit ≤ length se → limit ≤ length re → PartialsFit limit t ch se re
-  partials-fit t kept se re size size' =
-      let v = length-map t (λ (e : ℕ × Partial). e .1) in
-      record {
-        fits = kept-fits t kept ch fits;
-        channels-size = kept-size t kept (channels t) ch (length-map t (λ (e : ℕ × Partial). e .0)) (fits .room);
-        sequences-size = kept-size t kept (channels (values t)) se (length-map (values t) (λ (e : Partial). e .0) ∙ v) size;
-        reliables-size = kept-size t kept (values (values t)) re (length-map (values t) (λ (e : Partial). e .1) ∙ v) size';
-      }
-
-  -- after `reliably`, and after `track`
-  pub reliably-fits : (c : ℕ) (nu : List ℕ) → limit ≤ length nu → SequencesFit limit (reliably limit c (sequencesAt live ch nu) .table) ch nu
-  reliably-fits c nu size =
-      sequences-fit (reliably limit c (sequencesAt live ch nu) .table) (reliably-kept (sequencesAt live ch nu) (sequences-kept ch fits nu size) c) nu size
-
-  pub track-fits : (f : BunchFields) (sequence : ℕ) (limited : Bool) (se re : List ℕ) → limit ≤ length se → limit ≤ length re
-      → PartialsFit limit (effected (tracking limit f sequence limited (partialsAt live ch se re) .effect) (f .«ch_index») (inFlight f sequence) (partialsAt live ch se re)) ch se re
-  track-fits f sequence limited se re size size' =
-      let t = partialsAt live ch se re in
-      partials-fit (effected (tracking limit f sequence limited t .effect) (f .«ch_index») (inFlight f sequence) t) (tracking-kept t (partials-kept ch fits se re size size') f sequence limited) se re size size'
-
 -- what is laid is read back
 pub laid-back : {A : Type 0} (t : Table A) (s m : List ℕ) → length s ≡ length t → take (length t) (laid s m) ≡ s
 laid-back t s m e = rw (← e) (take-laid s m)

@@ -6,17 +6,15 @@ ghost use Rattle.reading.specs.Memory.{Memory};
 ghost use Rattle.reading.specs.Answers.{packetPaper, ofRead};
 ghost use Rattle.packet.specs.Answers.{ofOpened};
 ghost use Rattle.answers.specs.Words.{window};
-ghost use Rattle.words.specs.Words.{reasonWord, kindWord, headerWords};
+ghost use Rattle.words.specs.Words.{headerWords};
 ghost use Rattle.exports_packet.specs.Packets.{noBunch, bunchWords, readerWords};
-use bits::inner::signed;
 use packet::Opened;
 use reading::Bunch;
 use reading::BunchRead;
 use reading::PacketError;
-use types::ChannelCloseReason;
-use types::PartialSequenceKind;
 use types::RawBunchHeader;
 use window::Window;
+use words::of_header;
 
 pub type ReaderWords = [u64; 4];
 
@@ -69,27 +67,6 @@ fn said(number: u64, first: u64, second: u64) -> Numbers
     }
 }
 
-fn reason(r: ChannelCloseReason) -> u64
-    ensures { λ x. ⌜ x ≡ reasonWord r ⌝ }
-{
-    match r {
-        ChannelCloseReason::Destroyed => 0,
-        ChannelCloseReason::Dormancy => 1,
-    }
-}
-
-fn kind(k: PartialSequenceKind) -> u64
-    ensures { λ x. ⌜ x ≡ kindWord k ⌝ }
-{
-    match k {
-        PartialSequenceKind::None => 0,
-        PartialSequenceKind::MissingInitial => 1,
-        PartialSequenceKind::OverlappingInitial => 2,
-        PartialSequenceKind::MismatchedContinuation => 3,
-        PartialSequenceKind::NonByteAlignedFragment => 4,
-    }
-}
-
 // No bunch: the words of one are 0.
 fn without_bunch(r: BunchRead, said: Numbers, case: u64) -> BunchWords
     ensures { λ x. ⌜ x ≡ said .number ∷ said .first ∷ said .second ∷ case ∷ r .next .0 ∷ r .bunches ∷ r .malformed ∷ r .«partial_errors» ∷ r .«channel_limit» ∷ r .sequences ∷ r .partials ∷ noBunch ⌝ }
@@ -133,19 +110,13 @@ fn without_bunch(r: BunchRead, said: Numbers, case: u64) -> BunchWords
     ]
 }
 
-fn with_bunch(r: BunchRead, h: RawBunchHeader, w: Window) -> BunchWords
-    ensures { λ x. ⌜ x ≡ 0 ∷ 0 ∷ 0 ∷ 0 ∷ r .next .0 ∷ r .bunches ∷ r .malformed ∷ r .«partial_errors» ∷ r .«channel_limit» ∷ r .sequences ∷ r .partials ∷ (headerWords h ++ window w) ⌝ }
+fn with_bunch(r: BunchRead, header: RawBunchHeader, w: Window) -> BunchWords
+    ensures { λ x. ⌜ x ≡ 0 ∷ 0 ∷ 0 ∷ 0 ∷ r .next .0 ∷ r .bunches ∷ r .malformed ∷ r .«partial_errors» ∷ r .«channel_limit» ∷ r .sequences ∷ r .partials ∷ (headerWords header ++ window w) ⌝ }
 {
     let next = r.next;
     let start = w.start;
     let position = w.position;
-    let close_reason = h.close_reason;
-    let partial_error_kind = h.partial_error_kind;
-    let bits = h.payload_bit_count as u64;
-    let id = signed::to_word(h.packet_id) as u64;
-    let sequence = signed::to_word(h.ch_sequence) as u64;
-    let closed = reason(close_reason);
-    let wrong = kind(partial_error_kind);
+    let h = of_header(header);
     [
         0,
         0,
@@ -158,26 +129,26 @@ fn with_bunch(r: BunchRead, h: RawBunchHeader, w: Window) -> BunchWords
         r.channel_limit as u64,
         r.sequences as u64,
         r.partials as u64,
-        id,
-        h.ch_index as u64,
-        h.b_open as u64,
-        h.b_close as u64,
-        h.b_dormant as u64,
-        h.b_is_replication_paused as u64,
-        h.b_reliable as u64,
-        h.b_partial as u64,
-        h.b_partial_initial as u64,
-        h.b_partial_final as u64,
-        h.b_has_package_map_exports as u64,
-        h.b_has_must_be_mapped_guids as u64,
-        sequence,
-        closed,
-        bits,
-        h.payload_bit_offset,
-        h.has_partial_error as u64,
-        wrong,
-        h.is_partial_completed as u64,
-        h.has_channel_limit_error as u64,
+        h[0],
+        h[1],
+        h[2],
+        h[3],
+        h[4],
+        h[5],
+        h[6],
+        h[7],
+        h[8],
+        h[9],
+        h[10],
+        h[11],
+        h[12],
+        h[13],
+        h[14],
+        h[15],
+        h[16],
+        h[17],
+        h[18],
+        h[19],
         start.0,
         position.0,
         w.length,

@@ -10,7 +10,7 @@ use Rattle.tables.specs.Tables.{values}
 use Rattle.places.specs.Bytes.{pasted, part}
 use Rattle.places.specs.Packed.{joined, start}
 use Rattle.places.proofs.Packed.{start-next}
-use Rattle.places.proofs.Arena.{removed, inserted, changed, replaced}
+use Rattle.places.proofs.Arena.{removed, inserted, changed}
 use Rattle.judging.specs.Held.{Held}
 use Rattle.held.specs.declared.Accumulator.{Accumulator}
 use Rattle.held.specs.Memory.{Memory, sizeOf, sizeAll, heldAt, bytesAll}
@@ -42,18 +42,3 @@ module _ (a : Accumulator) (m : Memory) (s : Stands a m) (i : ℕ) where
       -- down over message i
       pub bytes-out : to ≡ sizeAll (take i (m .places)) → moved ≡ laid (joined (removedAt i (packed a m))) (m .arena)
       bytes-out e = removed (packed a m) (m .arena) (bytes-first a m s) i from to n used moves (e ∙ sym (starts a m s i (omega arith))) (next ∙ sym (starts-next a m s i h))
-
-      -- away from behind message i, and bytes are pasted behind it
-      pub bytes-more : (b : List ℕ) {out : List ℕ} → to ≡ from + length b → to ≤ length (m .arena)
-          → out ≡ pasted from b moved → out ≡ laid (joined (set (packed a m) i (messageAt m i .message .bytes ++ b))) (m .arena)
-      bytes-more b f g pastes =
-          let own = getD (packed a m) i [] in
-          let at : from ≡ start i (packed a m) + length own = next ∙ sym (starts-next a m s i h) ∙ start-next (packed a m) i (packed-within h) in
-          changed (packed a m) (m .arena) (bytes-first a m s) i from to n used moves (length own) b from (packed-within h) (omega arith) at (next ∙ sym (starts-next a m s i h)) f g pastes
-          ∙ rw (take-length own, packed-at h) refl
-
-      -- to where another message i ends, whose bytes are pasted over it
-      pub bytes-anew : (b : List ℕ) (at : ℕ) {out : List ℕ} → at ≡ sizeAll (take i (m .places)) → to ≡ at + length b → to ≤ length (m .arena)
-          → out ≡ pasted at b moved → out ≡ laid (joined (set (packed a m) i b)) (m .arena)
-      bytes-anew b at e f g pastes =
-          replaced (packed a m) (m .arena) (bytes-first a m s) i from to n used moves b at (packed-within h) (e ∙ sym (starts a m s i (omega arith))) (next ∙ sym (starts-next a m s i h)) f g pastes

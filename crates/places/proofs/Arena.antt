@@ -84,7 +84,3 @@ module _ (bs : List (List ℕ)) (m : List ℕ) (holds : m ≡ laid (joined bs) m
       → to ≡ at + length b → to ≤ length m → out ≡ pasted at b moved → out ≡ laid (joined (set bs i (take keep (getD bs i []) ++ b))) m
   changed keep b at l k e f g h pastes =
       put-in b at (omega (arith, start-within bs (suc i), start-next bs i l)) g h pastes ∙ rw (joined-changed bs i l keep b k, e, f)
-
-  pub replaced : (b : List ℕ) (at : ℕ) {out : List ℕ} → i < length bs → at ≡ start i bs → from ≡ start (suc i) bs
-      → to ≡ at + length b → to ≤ length m → out ≡ pasted at b moved → out ≡ laid (joined (set bs i b)) m
-  replaced b at l e f g h pastes = changed 0 b at l (omega arith) (omega arith) f g h pastes

@@ -94,12 +94,6 @@ module _ {A : Type 0} where
       ∙ copies-block from to i k m m h (omega arith) refl refl
 
   -- what is left, up to n
-  pub copies-rest : (from at n i : ℕ) (s m : List A) {a b : List A} → i ≤ n → from + i ≤ length s → at + i ≤ length m → a ≡ pasted at (part from i s) m
-      → b ≡ pasted (at + i) (part (from + i) (n - i) s) a → b ≡ pasted at (part from n s) m
-  copies-rest from at n i s m e g h o p =
-      let u : i + (n - i) ≡ n = omega arith in
-      copies-block from at i (n - i) s m g h o p ∙ ap (λ (k : ℕ). pasted at (part from k s) m) u
-
   pub moves-rest-down : (from to n i : ℕ) (m : List A) {a b : List A} → i ≤ n → to ≤ from → from + i ≤ length m → a ≡ pasted to (part from i m) m
       → b ≡ pasted (to + i) (part (from + i) (n - i) a) a → b ≡ pasted to (part from n m) m
   moves-rest-down from to n i m e g h o p =

@@ -56,12 +56,6 @@ module _ {A : Type 0} (live i : ℕ) (m : List A) (fits : live ≤ length m) whe
   live-removed : i < live → suc (length (removedAt i (take live m))) ≡ live
   live-removed h = let e : length (take live m) ≡ live = length-take-le live m fits in length-removed i (take live m) (omega arith) ∙ e
 
-  pub size-inserted : (x : A) → i ≤ live → live < length m → length (laid (insertedAt i x (take live m)) m) ≡ length m
-  size-inserted x h f = length-laid (insertedAt i x (take live m)) m (omega (arith, live-inserted x h))
-
-  pub size-removed : i < live → length (laid (removedAt i (take live m)) m) ≡ length m
-  size-removed h = length-laid (removedAt i (take live m)) m (omega (arith, live-removed h))
-
   pub take-inserted : (n : ℕ) (x : A) → n ≡ suc live → i ≤ live → take n (laid (insertedAt i x (take live m)) m) ≡ insertedAt i x (take live m)
   take-inserted n x e h =
       ap (λ (k : ℕ). take k (laid (insertedAt i x (take live m)) m)) (e ∙ sym (live-inserted x h)) ∙ take-laid (insertedAt i x (take live m)) m

@@ -120,9 +120,6 @@ module _ (limit : ℕ) (d : List ℕ) (id : ℤ) where
       v : Moves (dataBits d) at x
       v = moves limit d (ofZ w32 id) at t (g .place)
 
-      pub line-room : end + lineRoom ≤ length out
-      line-room = omega (arith, g .room)
-
       few-on : goesOn (x .outcome) ≡ true → Few (x .next) (raisedBy s x)
       few-on e =
           let w = v .far e in

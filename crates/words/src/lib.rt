@@ -18,7 +18,7 @@ fn reason_word(r: ChannelCloseReason) -> u64
     }
 }
 
-fn kind_word(k: PartialSequenceKind) -> u64
+pub fn kind_word(k: PartialSequenceKind) -> u64
     ensures { λ w. ⌜ w ≡ kindWord k ⌝ }
 {
     match k {

@@ -4,6 +4,9 @@ ghost use mathlib.Core.Bool.{false};
 ghost use Prim.Native.Nat.{_^_, _≤_, _<_};
 use recorded::inner;
 
+// As many words as the longest answer has.
+pub type AnswerWords = [u64; 79];
+
 // A word from 2^15 on stands for one around 2^31.
 pub fn short(line: &[u8], at: usize) -> u64
     requires { ⌜ at < 2 ^ 32 ⌝ }
@@ -42,7 +45,7 @@ fn recorded(line: &[u8], first: usize, rest: usize, count: usize, i: usize) -> u
     0
 }
 
-fn same_answer(line: &[u8], first: usize, rest: usize, count: usize, out: &[u64; 79]) -> bool
+fn same_answer(line: &[u8], first: usize, rest: usize, count: usize, out: &AnswerWords) -> bool
     requires { ⌜ (first < 2 ^ 18) × (rest < 2 ^ 18) ⌝ }
 {
     let mut i = 0;
@@ -56,7 +59,7 @@ fn same_answer(line: &[u8], first: usize, rest: usize, count: usize, out: &[u64;
 }
 
 // Data that ends before these words, in the middle of one or behind the last that an answer has is no record's.
-pub fn same(line: &[u8], n: usize, m: usize, out: &[u64; 79]) -> bool
+pub fn same(line: &[u8], n: usize, m: usize, out: &AnswerWords) -> bool
     requires { ⌜ (n < 2 ^ 16) × (m < 256) ⌝ }
     ensures { λ r. ⌜ (n < 5 → r ≡ false) ⌝ }
 {
