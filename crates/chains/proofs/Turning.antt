@@ -1,7 +1,7 @@
 -- A call over sound memory leaves what the definition's call does, and a turn is one call or two.
 use Prim.Native.Nat.{ℕ}
 use mathlib.Core.Path.{_≡_, refl, ap, sym, _∙_}
-use mathlib.Core.Bool.{true, false, cond}
+use mathlib.Core.Bool.{true, false}
 use mathlib.Core.List.{List}
 use Rattle.types.specs.declared.RawBunchHeader.{RawBunchHeader}
 use Rattle.words.specs.Words.{headerFrom}

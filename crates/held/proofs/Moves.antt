@@ -1,16 +1,14 @@
 -- The arena's part of an edit, in the numbers that the code has: where the message starts, its bytes, and the bytes that are used.
 use Prim.Native.Nat.{ℕ, _+_, _≤_, _<_}
-use mathlib.Core.Path.{_≡_, refl, sym, ap, _∙_}
-use mathlib.Core.List.{List, [], _++_}
+use mathlib.Core.Path.{_≡_, sym, ap, _∙_}
+use mathlib.Core.List.{List, []}
 use native.Mathlib.Omega.{arith}
-use lib.ListN.{length, getD, set, take, length-map, List·getD-map}
-use lib.Seq.{take-length}
+use lib.ListN.{length, getD, take, List·getD-map}
 use Rattle.tables.specs.Columns.{laid, insertedAt, removedAt}
 use Rattle.tables.specs.Tables.{values}
 use Rattle.places.specs.Bytes.{pasted, part}
-use Rattle.places.specs.Packed.{joined, start}
-use Rattle.places.proofs.Packed.{start-next}
-use Rattle.places.proofs.Arena.{removed, inserted, changed}
+use Rattle.places.specs.Packed.{joined}
+use Rattle.places.proofs.Arena.{removed, inserted}
 use Rattle.judging.specs.Held.{Held}
 use Rattle.held.specs.declared.Accumulator.{Accumulator}
 use Rattle.held.specs.Memory.{Memory, sizeOf, sizeAll, heldAt, bytesAll}
@@ -27,9 +25,6 @@ module _ (a : Accumulator) (m : Memory) (s : Stands a m) (i : ℕ) where
     pub packed-at : getD (packed a m) i [] ≡ messageAt m i .message .bytes
     unfolding heldAt
     packed-at = List·getD-map (λ (x : Held). x .message .bytes) (values (heldBy a m)) i (heldAt [] []) ∙ ap (λ (x : Held). x .message .bytes) (message-at a m s (heldAt [] []) i h)
-
-    packed-within : i < length (packed a m)
-    packed-within = omega (arith, length-map (values (heldBy a m)) (λ (x : Held). x .message .bytes), length-map (heldBy a m) (λ (e : ℕ × Held). e .1), columns a m s .size)
 
   -- the n bytes from `from` on, up to the last that is used, have moved to `to`
   module _ (from to n : ℕ) (used : from + n ≡ length (bytesAll (heldBy a m))) {moved : List ℕ} (moves : moved ≡ pasted to (part from n (m .arena)) (m .arena)) where

@@ -18,7 +18,6 @@ use Rattle.reading.specs.State.{State}
 use Rattle.reading.specs.Answers.{Reply, bunchAnswer, ofRead, reply}
 use Rattle.channels.proofs.Kept.{sequences-back, partials-back}
 use Rattle.digits.specs.Texts.{written}
-use Rattle.lines.specs.Lines.{lineRoom}
 use Rattle.digits.specs.Puts.{Put}
 use Rattle.digits.proofs.Texts.{written-append}
 use Rattle.telling.specs.declared.inner.Sums.{Sums}

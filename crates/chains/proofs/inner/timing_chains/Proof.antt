@@ -7,7 +7,7 @@ use lib.ListN.{length, getD}
 use borrow.Author.Needs.{needs}
 use Rattle.held.specs.Memory.{memory}
 use Rattle.settling.specs.Settling.{Using}
-use Rattle.chains.specs.Chains.{Run, run, turn, turns, payloadOf, chains, Ends}
+use Rattle.chains.specs.Chains.{Run, run, turn, turns, payloadOf, chains}
 use Rattle.chains.proofs.Running.{turn-on, turns-end, turns-begin}
 use Rattle.chains.proofs.inner.timing_chains.Statement.{statement}
 use Rattle.chains.proofs.inner.timing_chains.Tie as tie
