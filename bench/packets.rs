@@ -50,8 +50,8 @@ fn bunch(random: &mut Random, bits: &mut Bits, channel: u64) {
     bits.noise(random, width);
 }
 
-/// Some ten bunches a packet; every channel is about as often met.
-fn packets(channels: usize) -> Packets {
+/// Some ten bunches a packet; every channel is about as often met. Their numbers are so far apart.
+fn packets(channels: usize, apart: u64) -> Packets {
     let mut random = Random::new(6);
     let mut list = Vec::new();
     let mut bunches = 0;
@@ -59,7 +59,7 @@ fn packets(channels: usize) -> Packets {
         let mut bits = Bits::default();
         let count = 5 + random.below(11);
         for _ in 0..count {
-            let channel = random.below(channels as u64);
+            let channel = apart * random.below(channels as u64);
             bunch(&mut random, &mut bits, channel);
         }
         bits.push(1, 1);
@@ -123,16 +123,17 @@ fn ours(packets: &Packets, columns: &mut [Vec<u32>; 5], tested: bool) -> u64 {
 }
 
 pub fn run(timing: &Timing) {
-    for channels in [16, 232, 4096] {
-        let packets = packets(channels);
+    for (channels, apart) in [(16, 1), (232, 1), (232, 3), (4096, 1), (4096, 3)] {
+        let packets = packets(channels, apart);
         let mut reader = RawPacketReader::new();
         let mut columns: [Vec<u32>; 5] = std::array::from_fn(|_| vec![0; 4096]);
-        for channel in 0..channels as u32 {
+        for place in 0..channels {
+            let channel = apart as u32 * place as u32;
             reader.in_reliable_sequence.insert(channel, 0);
-            columns[0][channel as usize] = channel;
+            columns[0][place] = channel;
         }
         for (how, tested) in [("inner", true), ("by the public call", false)] {
-            let name = format!("read_bunch, {channels} channels, {how}");
+            let name = format!("read_bunch, {channels} channels{}, {how}", if apart == 1 { "" } else { " with gaps" });
             timing.compare(&name, packets.bunches, || rust(&packets, &mut reader), || ours(&packets, &mut columns, tested));
         }
     }

@@ -5,10 +5,11 @@ use mathlib.Core.Bool.{Bool}
 use mathlib.Core.List.{List, [], _∷_}
 use native.Mathlib.Nat.{not-suc-le-zero, le-of-suc-le-suc}
 use native.Mathlib.Omega.{arith}
-use lib.ListN.{length, getD, set, drop, List·getD-map}
+use lib.ListN.{length, getD, set, take, drop, List·getD-map}
 use lib.Seq.{getD-take}
 use Rattle.types.specs.declared.RawBunchHeader.{RawBunchHeader}
-use Rattle.tables.specs.Tables.{found, values}
+use Rattle.tables.specs.declared.Slot.{Slot}
+use Rattle.tables.specs.Tables.{found, values, slotOf}
 use Rattle.judging.specs.Held.{Fragment}
 use Rattle.judging.specs.Fates.{sequenceWord}
 use Rattle.judging.specs.Messages.{fresh, base, grown}
@@ -16,7 +17,9 @@ use Rattle.held.specs.declared.Accumulator.{Accumulator}
 use Rattle.held.specs.Memory.{Memory, placeOf, heldAt}
 use Rattle.held.specs.State.{Stands}
 use Rattle.held.specs.Calls.{heldBy}
-use Rattle.held.proofs.Holding.{messageAt, places-are, message-at}
+use Rattle.held.proofs.Holding.{messageAt, places-are, message-at, kept}
+use Rattle.held.proofs.Keeping.{good-held}
+use Rattle.held.proofs.Edits.{place-live, get-there}
 use Rattle.adding.specs.Adding.{startedWords, joinedWords}
 
 pub three-set : (p : List ℕ) (x y z : ℕ) → length p ≡ 24 → set (set (set p 0 x) 1 y) 3 z ≡ x ∷ y ∷ getD p 2 0 ∷ z ∷ drop 4 p
@@ -25,6 +28,13 @@ three-set (a ∷ []) x y z h = absurd (omega arith)
 three-set (a ∷ b ∷ []) x y z h = absurd (omega arith)
 three-set (a ∷ b ∷ c ∷ []) x y z h = absurd (omega arith)
 three-set (a ∷ b ∷ c ∷ d ∷ p) x y z h = refl
+
+-- three stores to a place, one after the other
+pub three-stored : (ps : List (List ℕ)) (i x y z : ℕ) → i < length ps → length (getD ps i []) ≡ 24
+    → let a = set ps i (set (getD ps i []) 0 x) in let b = set a i (set (getD a i []) 1 y) in set b i (set (getD b i []) 3 z) ≡ set ps i (x ∷ y ∷ getD (getD ps i []) 2 0 ∷ z ∷ drop 4 (getD ps i []))
+three-stored [] i x y z h g = absurd (not-suc-le-zero h)
+three-stored (p ∷ ps) zero x y z h g = ap (λ (q : List ℕ). q ∷ ps) (three-set p x y z g)
+three-stored (p ∷ ps) (suc i) x y z h g = ap (λ (qs : List (List ℕ)). p ∷ qs) (three-stored ps i x y z (le-of-suc-le-suc h) g)
 
 pub started-is : (h : RawBunchHeader) (finished : Bool) (f : Fragment) → placeOf (grown finished (fresh h) f) ≡ startedWords h (sequenceWord h) (f .bits) finished
 unfolding placeOf
@@ -47,3 +57,9 @@ place-is a m s i h =
     sym (List·getD-map placeOf (values (heldBy a m)) i d ∙ ap placeOf (message-at a m s d i h))
     ∙ rw (places-are a m s) (getD-take (a .active) (m .places) i (placeOf d) h)
     ∙ any-default (m .places) i (placeOf d) [] (omega (arith, s))
+
+pub place-long : (a : Accumulator) (m : Memory) → Stands a m → (c i : ℕ) → slotOf c (take (a .active) (m .channels)) ≡ Slot.At i → length (getD (m .places) i []) ≡ 24
+unfolding placeOf
+place-long a m s c i slot =
+    let good = good-held c (heldBy a m) (get-there a m s c i slot) (kept a m s .good) in
+    sym (ap length (place-is a m s i (place-live a m s c i slot))) ∙ omega (arith, good .header-words)

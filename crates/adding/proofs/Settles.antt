@@ -22,7 +22,7 @@ use Rattle.held.proofs.Keeping.{total-put}
 use Rattle.held.proofs.Laying.{bytes-within}
 use Rattle.held.proofs.Holding.{same-memory, same-counts}
 use Rattle.held.proofs.Edits.{bytes-changed, live-inserted, bytes-inserted, without-same}
-use Rattle.settling.specs.Settling.{Changes, Starts, Is, Lays}
+use Rattle.settling.specs.Settling.{Bytes, Changes, Starts, Is, Lays}
 use Rattle.settling.proofs.Numbers.{numbers}
 use Rattle.adding.specs.Adding.{startedWords, wordsAfter, heldIn, stayedBy, Holds, Lacks}
 use Rattle.adding.proofs.Places.{started-is, joined-is, place-is}
@@ -33,6 +33,10 @@ bits-of h x = ap bitsOf (x .place-is)
 
 few-bits : (a : Accumulator) (c : ℕ) (m : Memory) (h : Held) {p bytes : List ℕ} → Is h p bytes → Kept a (put c h (heldBy a m)) → a .«max_buffered_bits» ≤ 536870912 → bitsOf p ≤ 536870912
 few-bits a c m h x k o = omega (arith, bits-of h x, total-put c (heldBy a m) h, k .total-within)
+
+part-of : (b : Bool) (size : ℕ) → cond (not b) size 0 ≤ size
+part-of true size = omega arith
+part-of false size = omega arith
 
 module _ (a : Accumulator) (m : Memory) (used c i start : ℕ) (e : Effect) (h : RawBunchHeader) (sequence bits : ℕ) (payload : List ℕ) where
   module _ (g : Holds a m used c i start e h sequence bits payload) where
@@ -77,10 +81,41 @@ module _ (a : Accumulator) (m : Memory) (used c i start : ℕ) (e : Effect) (h :
           few = few-bits a c m stayed x kept (st .opens .bounded);
           room = omega (arith, bytes-within (put c stayed (heldBy a m)) m a (st .opens) kept, bytes-changed a m st c i (o .slot) stayed, long, o .sound .used-is);
         }
+
+    -- the bits that it then has, and the bytes that stay
+    pub bits-after : cond (not (e .anew)) (bitsOf p) 0 + bits ≡ bitsOf (wordsAfter (e .anew) (e .finished) p h sequence bits)
+    bits-after = go (e .anew)
       where
-        part-of : (b : Bool) (size : ℕ) → cond (not b) size 0 ≤ size
-        part-of true size = omega arith
-        part-of false size = omega arith
+        go : (b : Bool) → cond (not b) (bitsOf p) 0 + bits ≡ bitsOf (wordsAfter b (e .finished) p h sequence bits)
+        go true = omega arith
+        go false = refl
+
+    pub joins-few : {joins : ℕ} → joins ≡ cond (not (e .anew)) (bitsOf p) 0 → joins ≤ bitsOf p
+    joins-few f = rw f (part-of (e .anew) (bitsOf p))
+
+    pub bytes-kept : {joins keep : ℕ} → joins ≡ cond (not (e .anew)) (bitsOf p) 0 → keep ≡ bytesOf joins → keep ≡ cond (not (e .anew)) (sizeOf p) 0
+    bytes-kept f k = k ∙ rw f (go (e .anew))
+      where
+        go : (b : Bool) → bytesOf (cond (not b) (bitsOf p) 0) ≡ cond (not b) (sizeOf p) 0
+        go true = refl
+        go false = refl
+
+    pub bytes-room : {keep after : ℕ} → keep ≡ cond (not (e .anew)) (sizeOf p) 0 → after ≡ bitsOf (wordsAfter (e .anew) (e .finished) p h sequence bits) → e .stays ≡ true
+        → Bytes a (m .arena) used start (bitsOf p) keep bits payload after
+    bytes-room k f s =
+        let n = numbers a m used c i start (g .occupied) in
+        let x = changing refl k s in
+        record {
+          within = n .within;
+          used-fits = n .wide .used-fits;
+          kept = x .kept;
+          enough = g .enough;
+          short = g .short;
+          counted = n .bits-within;
+          total-small = n .wide .total-small;
+          few = rw f (x .few);
+          room = x .room;
+        }
 
   module _ (g : Lacks a m used c i start e h sequence bits payload) where
     abbrev new : Held

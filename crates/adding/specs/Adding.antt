@@ -1,5 +1,5 @@
 -- The places and messages that a fragment leaves, in the words that the code writes.
-use Prim.Native.Nat.{ℕ, _+_, _≤_}
+use Prim.Native.Nat.{ℕ, _+_, _^_, _≤_, _<_}
 use mathlib.Core.Path.{_≡_}
 use mathlib.Core.Bool.{Bool, true, cond}
 use mathlib.Core.List.{List, [], _∷_}
@@ -27,6 +27,12 @@ joinedWords p sequence bits finished = (getD p 0 0 + bits) ∷ boolByte finished
 
 abbrev pub wordsAfter : Bool → Bool → List ℕ → RawBunchHeader → ℕ → ℕ → List ℕ
 wordsAfter anew finished p h sequence bits = cond anew (startedWords h sequence bits finished) (joinedWords p sequence bits finished)
+
+-- what writing place i asks
+pub record Joinable (places : List (List ℕ)) (i bits : ℕ) : Type 0 where
+  pub there : i < length places
+  pub words : length (getD places i []) ≡ 24
+  pub few : getD (getD places i []) 0 0 + bits < 2 ^ 64
 
 -- what place i holds, its bytes from `start` on
 abbrev pub heldIn : ℕ → ℕ → Memory → Held

@@ -1,10 +1,10 @@
 // A channel's place by value, and the memory after a fragment's effect.
 ghost use mathlib.Core.Path.{_≡_};
 ghost use mathlib.Core.Bool.{cond};
-ghost use mathlib.Core.List.{List};
+ghost use mathlib.Core.List.{List, []};
 ghost use Prim.Native.Nat.{ℕ, _+_, _<_, _^_};
 ghost use lib.Dec.{eqb};
-ghost use lib.ListN.{getD, drop};
+ghost use lib.ListN.{getD, set, drop};
 ghost use Rattle.tables.specs.Tables.{found, none};
 ghost use Rattle.places.specs.Bytes.{bytesOf};
 ghost use Rattle.judging.specs.Fates.{sequenceWord, fate};
@@ -14,7 +14,7 @@ ghost use Rattle.held.specs.Memory.{memory, heldAt};
 ghost use Rattle.held.specs.Steps.{holding};
 ghost use Rattle.held.specs.Calls.{heldBy};
 ghost use Rattle.settling.specs.Settling.{Lays};
-ghost use Rattle.adding.specs.Adding.{startedWords, joinedWords, wordsAfter, heldIn, leftBy, Holds, Lacks};
+ghost use Rattle.adding.specs.Adding.{startedWords, joinedWords, wordsAfter, heldIn, leftBy, Joinable, Holds, Lacks};
 use bits::inner::signed;
 use held::Accumulator;
 use held::inner::bytes_of;
@@ -25,7 +25,7 @@ use judging::effects::effect;
 use judging::fates::fate;
 use places::Place;
 use settling::inner::Settled;
-use settling::inner::change_message;
+use settling::inner::change_bytes;
 use settling::inner::drop_message;
 use settling::inner::start_message;
 use types::RawBunchHeader;
@@ -82,33 +82,34 @@ fn started_place(h: RawBunchHeader, sequence: u32, bits: u64, finished: bool) ->
     ]
 }
 
-// The place of a message that a fragment joins.
-fn joined_place(p: Place, sequence: u32, bits: u64, finished: bool) -> Place
-    requires { ⌜ getD p 0 0 + bits < 2 ^ 64 ⌝ }
-    ensures { λ r. ⌜ r ≡ joinedWords p sequence bits finished ⌝ }
+// A fragment joins the message of place i: three of its words become others.
+fn join_place(places: &mut [Place], i: usize, finished: bool, sequence: u32, bits: u64)
+    requires { ⌜ Joinable (now places) i bits ⌝ }
+    ensures { λ r. ⌜ now (places .exit) ≡ set (now (places .entry)) i (joinedWords (getD (now (places .entry)) i []) sequence bits finished) ⌝ }
 {
-    let mut q = p;
-    q[0] = p[0] + bits;
-    q[1] = finished as u64;
-    q[3] = sequence as u64;
-    q
+    let held = places[i][0];
+    places[i][0] = held + bits;
+    places[i][1] = finished as u64;
+    places[i][3] = sequence as u64;
 }
 
-fn place_after(
+fn put_place(
+    places: &mut [Place],
+    i: usize,
     anew: bool,
     finished: bool,
-    p: Place,
     h: RawBunchHeader,
     sequence: u32,
     bits: u64,
-) -> Place
-    requires { ⌜ getD p 0 0 + bits < 2 ^ 64 ⌝ }
-    ensures { λ r. ⌜ r ≡ wordsAfter anew finished p h sequence bits ⌝ }
+)
+    requires { ⌜ Joinable (now places) i bits ⌝ }
+    ensures { λ r. ⌜ now (places .exit) ≡ set (now (places .entry)) i (wordsAfter anew finished (getD (now (places .entry)) i []) h sequence bits) ⌝ }
 {
     if anew {
-        return started_place(h, sequence, bits, finished);
+        places[i] = started_place(h, sequence, bits, finished);
+        return;
     }
-    joined_place(p, sequence, bits, finished)
+    join_place(places, i, finished, sequence, bits);
 }
 
 fn bytes_if(shown: bool, n: usize) -> usize
@@ -172,22 +173,19 @@ pub fn settle_held(
     ensures { λ r. ⌜ Lays a (memory (now (channels .entry)) (now (places .entry)) (now (arena .entry))) (holding «ch_index» (leftBy e (found (heldIn i start (memory (now (channels .entry)) (now (places .entry)) (now (arena .entry))))) h bits (now (payload .entry))) (heldBy a (memory (now (channels .entry)) (now (places .entry)) (now (arena .entry))))) r (memory (now (channels .exit)) (now (places .exit)) (now (arena .exit))) ⌝ }
 {
     if e.stays {
-        let p = places[i];
-        let next = place_after(e.anew, e.finished, p, h, sequence, bits);
-        let size = bytes_of(p[0]);
-        let keep = bytes_if(!e.anew, size);
-        return change_message(
+        let held = places[i][0];
+        let joins = bits_if(!e.anew, held);
+        let keep = bytes_of(joins);
+        put_place(places, i, e.anew, e.finished, h, sequence, bits);
+        return change_bytes(
             a,
             used,
-            ch_index,
-            i,
             start,
+            held,
             keep,
-            next,
             payload,
             bits,
-            channels,
-            places,
+            joins + bits,
             arena,
         );
     }

@@ -30,6 +30,18 @@ pub record Vacant (a : Accumulator) (m : Memory) (used c i start : ℕ) : Type 0
   pub slot : slotOf c (take (a .active) (m .channels)) ≡ Slot.Free i
   pub start-is : start ≡ sizeAll (take i (m .places))
 
+-- room for what a message's bytes become
+pub record Bytes (a : Accumulator) (arena : List ℕ) (used start before keep bits : ℕ) (payload : List ℕ) (after : ℕ) : Type 0 where
+  pub within : start + bytesOf before ≤ used
+  pub used-fits : used ≤ length arena
+  pub kept : keep ≤ bytesOf before
+  pub enough : bytesOf bits ≤ length payload
+  pub short : bits ≤ 16383
+  pub counted : before ≤ a .«total_buffered_bits»
+  pub total-small : a .«total_buffered_bits» ≤ 536870912
+  pub few : after ≤ 536870912
+  pub room : used + keep + bytesOf bits ≤ length arena + bytesOf before
+
 -- of the message's bytes the first `keep` stay, the bits of the payload follow, and the place becomes p
 pub record Changes (a : Accumulator) (m : Memory) (used c i start keep : ℕ) (p : List ℕ) (bits : ℕ) (payload : List ℕ) : Type 0 where
   pub occupied : Occupied a m used c i start

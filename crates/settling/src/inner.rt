@@ -1,14 +1,14 @@
 // Each edit lays the state that it means, and answers its counts.
 ghost use mathlib.Core.Path.{_≡_};
-ghost use mathlib.Core.List.{_++_};
-ghost use Prim.Native.Nat.{_+_, _≤_};
-ghost use lib.ListN.{length, drop};
+ghost use mathlib.Core.List.{List, [], _++_};
+ghost use Prim.Native.Nat.{ℕ, _+_, _≤_};
+ghost use lib.ListN.{length, getD, set, drop};
 ghost use Rattle.tables.specs.Tables.{put, without};
 ghost use Rattle.places.specs.Bytes.{pasted, part, bytesOf, payloadBytes};
 ghost use Rattle.judging.specs.Held.{Held};
-ghost use Rattle.held.specs.Memory.{memory, bitsOf};
+ghost use Rattle.held.specs.Memory.{Memory, memory, bitsOf};
 ghost use Rattle.held.specs.Calls.{heldBy};
-ghost use Rattle.settling.specs.Settling.{Occupied, Changes, Starts, Is, settled, Lays};
+ghost use Rattle.settling.specs.Settling.{Occupied, Bytes, Changes, Starts, Is, settled, Lays};
 use held::Accumulator;
 use held::inner::bytes_of;
 use places::Place;
@@ -72,35 +72,34 @@ pub fn drop_message(
     counted(a, active - 1, a.total_buffered_bits - bits, used - n)
 }
 
-// Of the message's bytes the first `keep` stay, and the payload's bits follow them; its place becomes p.
-pub fn change_message(
+// Of the message's bytes the first `keep` stay, and the payload's bits follow them: `before` bits become `after`. The place's words are
+// the caller's to write.
+pub fn change_bytes(
     a: Accumulator,
     used: usize,
-    ch_index: u32,
-    i: usize,
     start: usize,
+    before: u64,
     keep: usize,
-    p: Place,
     payload: &[u8],
     bits: u64,
-    channels: &[u32],
-    places: &mut [Place],
+    after: u64,
     arena: &mut [u8],
 ) -> Settled
-    requires { ⌜ Changes a (memory (now channels) (now places) (now arena)) used «ch_index» i start keep p bits (now payload) ⌝ }
-    ensures { λ r. ⌜ ((h : Held) → Is h p (part start keep (now (arena .entry)) ++ payloadBytes bits (now (payload .entry))) → Lays a (memory (now (channels .entry)) (now (places .entry)) (now (arena .entry))) (put «ch_index» h (heldBy a (memory (now (channels .entry)) (now (places .entry)) (now (arena .entry))))) r (memory (now (channels .entry)) (now (places .exit)) (now (arena .exit)))) ⌝ }
+    requires { ⌜ Bytes a (now arena) used start before keep bits (now payload) after ⌝ }
+    ensures { λ r. ⌜ ((m : Memory) (c i : ℕ) (p : List ℕ) → m .arena ≡ now (arena .entry) → before ≡ bitsOf (getD (m .places) i []) → after ≡ bitsOf p → Changes a m used c i start keep p bits (now (payload .entry)) → (h : Held) → Is h p (part start keep (m .arena) ++ payloadBytes bits (now (payload .entry))) → Lays a m (put c h (heldBy a m)) r (memory (m .channels) (set (m .places) i p) (now (arena .exit)))) ⌝ }
 {
-    let q = places[i];
-    let gone = q[0];
-    let size = bytes_of(gone);
+    let size = bytes_of(before);
     let n = bytes_of(bits);
     let next = start + size;
     let at = start + keep;
     move_bytes(arena, next, at + n, used - next);
     put_payload(payload, bits, arena, at);
-    places[i] = p;
-    let total = a.total_buffered_bits - gone + p[0];
-    counted(a, a.active, total, used - size + (keep + n))
+    counted(
+        a,
+        a.active,
+        a.total_buffered_bits - before + after,
+        used - size + (keep + n),
+    )
 }
 
 // A channel that holds nothing gets a message, whose bits are the payload's.

@@ -1,7 +1,7 @@
 -- The search: a step to either side, a turn of the count, and the slot that it ends at.
 use mathlib.Core.Path.{_≡_, refl, sym}
 use mathlib.Core.List.{List, [], _∷_}
-use Prim.Native.Nat.{ℕ, zero, suc, _+_, _≤_, _<_, min}
+use Prim.Native.Nat.{ℕ, zero, suc, _+_, _-_, _≤_, _<_, min}
 use native.Mathlib.Nat.{not-suc-le-zero, le-of-suc-le-suc}
 use native.Mathlib.Decide.{decLt}
 use native.Mathlib.Omega.{arith}
@@ -37,6 +37,23 @@ module _ (l : List ℕ) (live c : ℕ) (rise : Rising l live) (r room m n rest :
       above : (k : ℕ) → r + rest ≤ k → k < live → Dec (m < k) → c ≤ getD l k 0
       above k f p (yes q) = omega (arith, rise .rises m k q p)
       above k f p (no q) = let e : k ≡ m = omega arith in rw e ge
+
+-- channels that ascend are as far apart as their places, and further by the numbers between them that are free
+module _ (l : List ℕ) (live : ℕ) (rise : Rising l live) where
+  apart : (d i j : ℕ) → j ≡ i + d → j < live → getD l i 0 + d ≤ getD l j 0
+  apart zero i j e h = let s : j ≡ i = omega arith in rw s (omega arith)
+  apart (suc d) i j e h = omega (arith, apart d i (i + d) refl (omega arith), rise .rises (i + d) j (omega arith) h)
+
+  pub last-high : 0 < live → live ≤ getD l (live - 1) 0 + 1
+  last-high h = omega (arith, apart (live - 1) 0 (live - 1) (omega arith) (omega arith))
+
+  pub by-number : (c free r room : ℕ) → 0 < live → free ≡ getD l (live - 1) 0 + 1 - live → free ≤ room → r ≡ min (c - free) live → Near l live c r room
+  by-number c free r room h e few is =
+      record {
+        within = omega arith;
+        below = λ k f. omega (arith, apart (live - 1 - k) k (live - 1) (omega arith) (omega arith));
+        above = λ k f p. omega (arith, apart k 0 k (omega arith) (omega arith));
+      }
 
 -- the live places end at m, r of them below c: one more
 module _ (l : List ℕ) (c r m n : ℕ) (near : Near l m c r 0) (next : n ≡ suc m) where

@@ -1,7 +1,7 @@
 // Edits of one column, and the search of a channel in its column.
 ghost use mathlib.Core.Path.{_≡_};
 ghost use mathlib.Core.Bool.{true};
-ghost use Prim.Native.Nat.{_+_, _≤_, _<_, min};
+ghost use Prim.Native.Nat.{_+_, _-_, _≤_, _<_, min};
 ghost use lib.ListN.{length, take};
 ghost use Rattle.tables.specs.Columns.{laid, insertedAt, removedAt, ascending};
 ghost use Rattle.tables.specs.Search.{Rising, Near};
@@ -70,6 +70,36 @@ fn count(channels: &[u32], live: usize, from: usize, n: usize, channel: u32) -> 
     from + k as usize
 }
 
+fn less(a: usize, b: usize) -> usize
+    ensures { λ r. ⌜ r ≡ a - b ⌝ }
+{
+    if a < b { 0 } else { a - b }
+}
+
+fn wide(channel: u32) -> usize
+    ensures { λ r. ⌜ r ≡ channel ⌝ }
+{
+    channel as usize
+}
+
+// To within 8 places. Channels ascend, so one stands no further up than its own number, and no further below that than numbers up to
+// the last channel are free: where these are few, as where a channel is opened by the lowest free number, no step is taken.
+fn near(channels: &[u32], live: usize, channel: u32) -> usize
+    requires { ⌜ Rising (now channels) live × (0 < live) ⌝ }
+    ensures { λ r. ⌜ Near (now (channels .entry)) live channel r 8 ⌝ }
+{
+    let free = wide(channels[live - 1]) + 1 - live;
+    if free <= 8 {
+        return least(less(wide(channel), free), live);
+    }
+    let near256 = high(channels, live, channel);
+    let near128 = step(channels, live, near256, 128, channel);
+    let near64 = step(channels, live, near128, 64, channel);
+    let near32 = step(channels, live, near64, 32, channel);
+    let near16 = step(channels, live, near32, 16, channel);
+    step(channels, live, near16, 8, channel)
+}
+
 // How many of the live channels are below this one.
 fn below(channels: &[u32], live: usize, channel: u32) -> usize
     requires { ⌜ Rising (now channels) live ⌝ }
@@ -78,11 +108,8 @@ fn below(channels: &[u32], live: usize, channel: u32) -> usize
     if live < 32 {
         return count(channels, live, 0, live, channel);
     }
-    let near256 = high(channels, live, channel);
-    let near128 = step(channels, live, near256, 128, channel);
-    let near64 = step(channels, live, near128, 64, channel);
-    let near32 = step(channels, live, near64, 32, channel);
-    count(channels, live, least(near32, live - 32), 32, channel)
+    let near8 = near(channels, live, channel);
+    count(channels, live, least(near8, live - 8), 8, channel)
 }
 
 pub fn find(channels: &[u32], live: usize, channel: u32) -> Slot

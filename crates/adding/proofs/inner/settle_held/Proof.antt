@@ -1,19 +1,44 @@
 -- What stays is changed by the words and bytes that it means; else the message goes.
-use mathlib.Core.Path.{refl, _∙_}
+use mathlib.Core.Path.{refl}
 use native.Mathlib.Omega.{arith}
 use Rattle.settling.proofs.Numbers.{numbers}
-use Rattle.adding.proofs.Settles.{stayed-is, changing}
+use Rattle.adding.proofs.Places.{place-long}
+use Rattle.adding.proofs.Settles.{stayed-is, changing, bits-after, joins-few, bytes-kept, bytes-room}
 use borrow.Author.Needs.{needs}
 use Rattle.adding.proofs.inner.settle_held.Statement.{statement}
 use Rattle.adding.proofs.inner.settle_held.Tie as tie
 
-change-message-requires : tie.Need-change-message-requires
-change-message-requires c κs = changing _ _ _ _ _ _ _ _ _ _ _ (c .before .before .before .before .before .before .before .before .before .before .before .before .pre) (c .before .before .before .before .before .before .place-after .ensures) (c .before .before .before .bytes-if .ensures ∙ rw (c .before .before .before .before .before .bytes-of .ensures) refl) (c .before .before .before .before .before .before .before .before .if1 .taken)
+bytes-of-requires : tie.Need-bytes-of-requires
+bytes-of-requires c κs =
+    let g = c .before .before .before .before .before .before .before .pre in
+    omega (arith, joins-few _ _ _ _ _ _ _ _ _ _ _ g (c .bits-if .ensures), numbers _ _ _ _ _ _ (g .occupied))
+
+put-place-requires : tie.Need-put-place-requires
+put-place-requires c κs =
+    let g = c .before .before .before .before .before .before .before .before .before .pre in
+    let o = g .occupied in
+    let f = numbers _ _ _ _ _ _ o in
+    record { there = omega (arith, f); words = place-long _ _ (o .sound .stands) _ _ (o .slot); few = omega (arith, f, g .short) }
+
+add-change-bytes : tie.Need-add-change-bytes
+add-change-bytes c =
+    let g = c .before .before .before .before .before .before .before .before .before .before .before .pre in
+    omega (arith, joins-few _ _ _ _ _ _ _ _ _ _ _ g (c .before .before .before .before .bits-if .ensures), numbers _ _ _ _ _ _ (g .occupied), g .short)
+
+change-bytes-requires : tie.Need-change-bytes-requires
+change-bytes-requires c κs =
+    let g = c .before .before .before .before .before .before .before .before .before .before .before .before .pre in
+    let joins = c .before .before .before .before .before .bits-if .ensures in
+    bytes-room _ _ _ _ _ _ _ _ _ _ _ g (bytes-kept _ _ _ _ _ _ _ _ _ _ _ g joins (c .before .before .before .before .bytes-of .ensures)) (rw joins (bits-after _ _ _ _ _ _ _ _ _ _ _ g)) (c .before .before .before .before .before .before .before .before .if1 .taken)
 
 returns : tie.Need-returns
 returns c =
-    let g = c .before .before .before .before .before .before .before .before .before .before .before .before .before .before .before .before .pre in
-    rw (c .before .before .before .before .before .before .before .before .before .before .before .before .if1 .taken) (c .before .before .before .change-message .ensures _ (rw (c .before .before .before .before .before .before .before .before .before .before .place-after .ensures, c .before .before .before .before .before .before .before .bytes-if .ensures, c .before .before .before .before .before .before .before .before .before .bytes-of .ensures) (stayed-is _ _ _ _ _ _ _ _ _ _ _ g)))
+    let g = c .before .before .before .before .before .before .before .before .before .before .before .before .before .before .before .pre in
+    let joins = c .before .before .before .before .before .before .before .before .bits-if .ensures in
+    let taken = c .before .before .before .before .before .before .before .before .before .before .before .if1 .taken in
+    let keep = bytes-kept _ _ _ _ _ _ _ _ _ _ _ g joins (c .before .before .before .before .before .before .before .bytes-of .ensures) in
+    rw (taken, c .before .before .before .before .before .put-place .ensures)
+    (c .before .before .change-bytes .ensures _ _ _ _ refl refl (rw joins (bits-after _ _ _ _ _ _ _ _ _ _ _ g)) (changing _ _ _ _ _ _ _ _ _ _ _ g refl keep taken) _ (rw keep (stayed-is _ _ _ _ _ _ _ _ _ _ _ g)))
 
 returns-2 : tie.Need-returns-2
 returns-2 c = rw (c .before .before .before .before .before .before .before .before .before .if1 .left) (c .before .before .before .before .before .drop-message .ensures)
@@ -24,12 +49,12 @@ settle-held-spec =
     (tie.spec
     (λ c. let f = numbers _ _ _ _ _ _ (c .before .before .before .before .pre .occupied) in omega (arith, f))
     (λ c. let f = numbers _ _ _ _ _ _ (c .before .before .before .before .pre .occupied) in omega (arith, f))
-    (λ c κs. let f = numbers _ _ _ _ _ _ (c .before .before .before .before .before .pre .occupied) in omega (arith, f, c .before .before .before .before .before .pre .short))
     (λ c. search needs)
-    (λ c κs. let f = numbers _ _ _ _ _ _ (c .before .before .before .before .before .before .pre .occupied) in omega (arith, f))
     (λ c κs. search needs)
-    change-message-requires
-    (λ c. search needs)
+    bytes-of-requires
+    put-place-requires
+    add-change-bytes
+    change-bytes-requires
     (λ c. search needs)
     (λ c. search needs)
     returns
