@@ -8,8 +8,8 @@ use lib.Dec.{eqb, leb}
 use lib.ListN.{length, take, length-map}
 use lib.Seq.{length-take-le}
 use borrow.Author.Tests.{leb-false}
-use Rattle.tables.specs.Columns.{laid, ascending}
-use Rattle.tables.specs.Tables.{Table, Found, none, found, get, put, without, channels, values}
+use Rattle.tables.specs.Columns.{laid}
+use Rattle.tables.specs.Tables.{Table, Found, none, found, get, channels, values}
 use Rattle.tables.proofs.Columns.{take-laid, length-laid, beside-whole}
 use Rattle.tables.proofs.Kept.{Kept, without-kept, put-kept}
 use Rattle.tables.proofs.Held.{holds}

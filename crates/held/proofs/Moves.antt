@@ -14,7 +14,7 @@ use Rattle.held.specs.declared.Accumulator.{Accumulator}
 use Rattle.held.specs.Memory.{Memory, sizeOf, sizeAll, heldAt, bytesAll}
 use Rattle.held.specs.State.{Stands}
 use Rattle.held.specs.Calls.{heldBy}
-use Rattle.held.proofs.Holding.{messageAt, columns, message-at, bytes-first, starts, starts-next}
+use Rattle.held.proofs.Holding.{messageAt, message-at, bytes-first, starts, starts-next}
 use Rattle.held.proofs.Edits.{packed}
 
 module _ (a : Accumulator) (m : Memory) (s : Stands a m) (i : ℕ) where

@@ -4,7 +4,7 @@ use mathlib.Core.List.{List, [], _∷_, _++_}
 use Prim.Native.Nat.{ℕ, zero, suc, _+_, _-_, _≤_, _<_}
 use native.Mathlib.Nat.{not-suc-le-zero, le-of-suc-le-suc}
 use native.Mathlib.Omega.{arith}
-use lib.ListN.{length, getD, set, take, drop, take-append-drop, length-drop}
+use lib.ListN.{length, getD, set, drop, take-append-drop, length-drop}
 use lib.Seq.{length-take-le, take-suc, drop-cons, getD-drop}
 use Rattle.tables.specs.Columns.{laid}
 use Rattle.tables.proofs.Columns.{length-laid, laid-take}

@@ -2,7 +2,7 @@
 // required, and the mask table is lent.
 ghost use mathlib.Core.Path.{_≡_};
 ghost use mathlib.Core.List.{List};
-ghost use Prim.Native.Nat.{ℕ, _+_, _*_, _-_, _≤_, _<_, _^_};
+ghost use Prim.Native.Nat.{ℕ, _+_, _-_, _≤_, _<_, _^_};
 ghost use lib.ListN.{length};
 ghost use Rattle.window.specs.Refusals.{placeOf, paper, tooFewBits};
 ghost use Rattle.window.specs.Parse.{advanced};
