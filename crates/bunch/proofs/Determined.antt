@@ -11,12 +11,11 @@ use Rattle.held.specs.Steps.{Told, Answer, refused, judged, handed, nothing}
 use Rattle.held.specs.Calls.{Reply}
 use Rattle.held.proofs.Refusals.{unbunch, unbunch-paper}
 use Rattle.taking.specs.declared.Handed.{Handed}
-use Rattle.taking.specs.Answers.{ofHanded}
+use Rattle.taking.specs.declared.Taken.{Taken}
+use Rattle.taking.specs.Answers.{ofHanded, ofTaken}
 use Rattle.joining.specs.declared.Judged.{Judged}
-use Rattle.joining.specs.Answers.{toldBy, ofJudged}
-use Rattle.bunch.specs.declared.Taken.{Taken}
-use Rattle.bunch.specs.declared.Added.{Added}
-use Rattle.bunch.specs.Answers.{ofTaken, ofAdded}
+use Rattle.joining.specs.declared.Added.{Added}
+use Rattle.joining.specs.Answers.{toldBy, ofJudged, ofAdded}
 
 -- ## Taking and retiring
 

@@ -5,17 +5,18 @@ ghost use Rattle.held.specs.Steps.{adding, taking, retiring};
 ghost use Rattle.held.specs.Calls.{called};
 ghost use Rattle.held.specs.declared.BunchError.{BunchError};
 ghost use Rattle.taking.specs.declared.Handed.{Handed};
+ghost use Rattle.taking.specs.Answers.{ofTaken};
 ghost use Rattle.joining.specs.declared.Judged.{Judged};
-ghost use Rattle.bunch.specs.Answers.{ofTaken, ofAdded};
-use crate::Added;
-use crate::Taken;
+ghost use Rattle.joining.specs.Answers.{ofAdded};
 use held::Accumulator;
 use held::BunchError;
 use held::inner::Checked;
 use held::inner::pass;
+use joining::Added;
 use joining::Judged;
 use places::Place;
 use taking::Handed;
+use taking::Taken;
 use types::RawBunchHeader;
 
 fn refused(a: Accumulator) -> Taken

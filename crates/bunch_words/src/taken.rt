@@ -5,11 +5,11 @@ ghost use Prim.Native.Nat.{ℕ};
 ghost use lib.ListN.{getD};
 ghost use Rattle.held.specs.Memory.{Memory};
 ghost use Rattle.held.specs.Refusals.{errorPaper};
-ghost use Rattle.bunch.specs.Answers.{ofTaken};
+ghost use Rattle.taking.specs.Answers.{ofTaken};
 ghost use Rattle.bunch_words.specs.Handed.{handedWords};
-use bunch::Taken;
 use held::BunchError;
 use taking::Handed;
+use taking::Taken;
 use words::of_header;
 
 pub type HandedWords = [u64; 26];

@@ -4,9 +4,10 @@ use mathlib.Core.Path.{_≡_, ap, _∙_}
 use mathlib.Core.List.{List}
 use Rattle.held.specs.Memory.{Memory}
 use Rattle.held.specs.Calls.{Reply}
-use Rattle.bunch.specs.declared.Added.{Added}
-use Rattle.bunch.specs.declared.Taken.{Taken}
-use Rattle.bunch.specs.Answers.{ofTaken, ofAdded}
+use Rattle.taking.specs.declared.Taken.{Taken}
+use Rattle.taking.specs.Answers.{ofTaken}
+use Rattle.joining.specs.declared.Added.{Added}
+use Rattle.joining.specs.Answers.{ofAdded}
 use Rattle.bunch_words.specs.Handed.{handedWords}
 use Rattle.bunch_words.specs.Fragments.{fragmentWords}
 

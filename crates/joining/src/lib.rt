@@ -1,4 +1,5 @@
 // A fragment is added, on memory that was tested: a program that tested it once can go on with what the call leaves.
+use held::Accumulator;
 use held::BunchError;
 use judging::Displacement;
 use judging::PartialBunchResult;
@@ -12,4 +13,10 @@ pub enum Judged {
         displaced: Displacement,
     },
     Refused(BunchError),
+}
+
+// Beside what is then held: the answer of a call that tests the memory.
+pub struct Added {
+    pub answer: Judged,
+    pub accumulator: Accumulator,
 }

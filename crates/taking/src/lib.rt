@@ -1,4 +1,5 @@
 // A message is handed out, on memory that was tested: a program that tested it once can go on with what each call leaves.
+use held::Accumulator;
 use held::BunchError;
 use types::RawBunchHeader;
 
@@ -12,4 +13,10 @@ pub enum Handed {
     },
     Nothing,
     Refused(BunchError),
+}
+
+// Beside what is then held: the answer of a call that tests the memory.
+pub struct Taken {
+    pub answer: Handed,
+    pub accumulator: Accumulator,
 }
