@@ -36,6 +36,7 @@ impl Inputs {
         self.every_cursor();
         self.unsound();
         self.longest();
+        self.dense_logs();
         self.comparing.summary();
         self.met.print();
     }
@@ -158,23 +159,45 @@ impl Inputs {
         }
     }
 
+    /// Both tables with these channels, by ascending number.
+    fn holding(&mut self, limit: usize, places: usize, held: &[u32]) -> Case {
+        let mut case = Case::new(limit, places);
+        for (column, of) in case.columns.iter_mut().enumerate() {
+            if column == 0 || column == 2 {
+                of[..held.len()].copy_from_slice(held);
+            } else {
+                of[..held.len()].fill_with(|| self.random.one_of(&SEQUENCES));
+            }
+        }
+        case.live = [held.len(); 2];
+        case
+    }
+
     /// Tables of 4,096 channels, full or nearly.
     fn full_logs(&mut self) {
         self.comparing.stage("logs on large tables");
         for round in 0..self.rounds(120, 2_000) {
             let mut channels: Vec<u32> = (0..4097).map(|index| 7 * index + 3).collect();
             channels.extend(streams::ENDS);
-            let mut case = Case::new(4096, 4096 + round as usize % 2);
             let live = 4096 - self.random.below(3) as usize;
             let held: Vec<u32> = BTreeSet::from_iter(channels.iter().copied()).into_iter().take(live).collect();
-            for (column, of) in case.columns.iter_mut().enumerate() {
-                if column == 0 || column == 2 {
-                    of[..live].copy_from_slice(&held);
-                } else {
-                    of[..live].fill_with(|| self.random.one_of(&SEQUENCES));
-                }
+            let mut case = self.holding(4096, 4096 + round as usize % 2, &held);
+            self.log(&mut case, &channels, 2, 6);
+        }
+    }
+
+    /// Tables that leave few numbers free up to their last channel, on both sides of where a channel is found without a step.
+    fn dense_logs(&mut self) {
+        self.comparing.stage("logs on tables with few free numbers");
+        for round in 0..self.rounds(12_000, 200_000) {
+            let live = 28 + self.random.below(if round % 40 == 0 { 4_000 } else { 90 }) as usize;
+            let numbers = live as u64 + self.random.below(14);
+            let mut held: BTreeSet<u32> = (0..numbers as u32).collect();
+            while held.len() > live {
+                held.remove(&(self.random.below(numbers) as u32));
             }
-            case.live = [live; 2];
+            let mut case = self.holding(live + 2, live + 2, &Vec::from_iter(held));
+            let channels: Vec<u32> = (0..12).map(|_| self.random.below(numbers + 3) as u32).collect();
             self.log(&mut case, &channels, 2, 6);
         }
     }
