@@ -1,4 +1,4 @@
-// A channel's place by value, and the memory after a fragment's effect.
+// A channel's place, and the memory after a fragment's effect.
 ghost use mathlib.Core.Path.{_≡_};
 ghost use mathlib.Core.Bool.{cond};
 ghost use mathlib.Core.List.{List, []};
