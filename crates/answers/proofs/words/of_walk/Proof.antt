@@ -1,4 +1,5 @@
 -- The seven words of the stop, and the count.
+use mathlib.Core.Path.{_∙_}
 use borrow.Author.Needs.{needs}
 use Rattle.answers.specs.Walks.{stop}
 use Rattle.answers.proofs.Seven.{seven-words}
@@ -9,7 +10,7 @@ with-count-requires : tie.Need-with-count-requires
 with-count-requires c κs = rw (c .of-stop .ensures) (seven-words stop _)
 
 returns : tie.Need-returns
-returns c = cc
+returns c = c .with-count .ensures ∙ rw (c .before .of-stop .ensures)
 
 pub of-walk-spec : {M : Type 1} → statement M
 of-walk-spec = tie.close (tie.spec (λ c κs. search needs) with-count-requires returns)
