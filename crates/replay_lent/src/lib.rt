@@ -1,2 +1,0 @@
-// What a record of the accumulator's answers holds beside the call: the answer's words, and what is lent before and after.
-pub mod inner;
