@@ -1,9 +1,14 @@
--- The words of three arrays, one by one, are the arrays joined.
-use Prim.Native.Nat.{ℕ}
-use mathlib.Core.Path.{_≡_, refl, sym}
-use mathlib.Core.List.{List, _∷_, _++_}
-use lib.ListN.{length}
-use Rattle.held.proofs.Words.{wordsFrom, words-rest}
+-- Three parts put into zeros, the last first, and the words before them, are the parts joined.
+use Prim.Native.Nat.{ℕ, _+_}
+use mathlib.Core.Path.{_≡_, refl}
+use mathlib.Core.List.{List, _∷_, _++_, append-nil}
+use lib.ListN.{length, take, drop, set, replicate}
 
-pub joined-words : (r d e : List ℕ) (n : ℕ) → length r ≡ 28 → length d ≡ 23 → length e ≡ 23 → wordsFrom 28 0 r ++ (n ∷ (wordsFrom 23 0 d ++ wordsFrom 23 0 e)) ≡ r ++ (n ∷ (d ++ e))
-joined-words r d e n p q s = rw (words-rest 28 0 r (sym p), words-rest 23 0 d (sym q), words-rest 23 0 e (sym s)) refl
+-- what `put` leaves
+abbrev pub put : ℕ → List ℕ → List ℕ → List ℕ
+put at s d = take at d ++ (s ++ drop (at + length s) d)
+
+pub joined-words : (s t a b n : ℕ) (r d e : List ℕ) {x y z : List ℕ} → length r ≡ 28 → length d ≡ 23 → length e ≡ 23
+    → x ≡ put 56 e (replicate 79 0) → y ≡ put 33 d x → z ≡ put 4 r (set y 32 n)
+    → set (set (set (set z 3 b) 2 a) 1 t) 0 s ≡ s ∷ t ∷ a ∷ b ∷ (r ++ (n ∷ (d ++ e)))
+joined-words s t a b n r d e p q u x y z = rw (z, y, x, p, q, u, append-nil) refl

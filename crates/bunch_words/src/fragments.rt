@@ -15,6 +15,7 @@ use judging::Displacement;
 use judging::PartialBunchResult;
 use judging::PartialDiscardCause;
 use judging::PartialResourceLimit;
+use words::inner::put;
 use words::kind_word;
 use words::of_header;
 
@@ -64,27 +65,7 @@ pub fn of_result(r: PartialBunchResult) -> ResultWords
     let h = of_header(header);
     let reached = limit(resource_limit);
     let wrong = kind_word(error_kind);
-    [
-        h[0],
-        h[1],
-        h[2],
-        h[3],
-        h[4],
-        h[5],
-        h[6],
-        h[7],
-        h[8],
-        h[9],
-        h[10],
-        h[11],
-        h[12],
-        h[13],
-        h[14],
-        h[15],
-        h[16],
-        h[17],
-        h[18],
-        h[19],
+    let rest: [u64; 8] = [
         r.should_process as u64,
         reached,
         r.discarded_bits,
@@ -93,7 +74,11 @@ pub fn of_result(r: PartialBunchResult) -> ResultWords
         errors,
         fragments,
         completed,
-    ]
+    ];
+    let mut w: ResultWords = [0; 28];
+    put(&mut w, 0, &h);
+    put(&mut w, 20, &rest);
+    w
 }
 
 fn of_displaced(d: Displaced) -> DisplacedWords
@@ -104,34 +89,16 @@ fn of_displaced(d: Displaced) -> DisplacedWords
     let h = of_header(header);
     let which = cause_word(cause);
     let value = cause_value(cause);
-    [
-        h[0],
-        h[1],
-        h[2],
-        h[3],
-        h[4],
-        h[5],
-        h[6],
-        h[7],
-        h[8],
-        h[9],
-        h[10],
-        h[11],
-        h[12],
-        h[13],
-        h[14],
-        h[15],
-        h[16],
-        h[17],
-        h[18],
-        h[19],
-        d.bit_count,
-        which,
-        value,
-    ]
+    let mut w: DisplacedWords = [0; 23];
+    put(&mut w, 0, &h);
+    w[20] = d.bit_count;
+    w[21] = which;
+    w[22] = value;
+    w
 }
 
-// One after the other: what is said, the counts, the result, how many are displaced, and they.
+// One after the other: what is said, the counts, the result, how many are displaced, and they. The last is put first: what stands
+// before a part is then known word by word.
 fn joined(
     s: Numbers,
     a: Accumulator,
@@ -142,87 +109,16 @@ fn joined(
 ) -> FragmentWords
     ensures { λ x. ⌜ x ≡ s .number ∷ s .returned ∷ a .active ∷ a .«total_buffered_bits» ∷ (r ++ (n ∷ (d ++ e))) ⌝ }
 {
-    [
-        s.number,
-        s.returned,
-        a.active as u64,
-        a.total_buffered_bits,
-        r[0],
-        r[1],
-        r[2],
-        r[3],
-        r[4],
-        r[5],
-        r[6],
-        r[7],
-        r[8],
-        r[9],
-        r[10],
-        r[11],
-        r[12],
-        r[13],
-        r[14],
-        r[15],
-        r[16],
-        r[17],
-        r[18],
-        r[19],
-        r[20],
-        r[21],
-        r[22],
-        r[23],
-        r[24],
-        r[25],
-        r[26],
-        r[27],
-        n,
-        d[0],
-        d[1],
-        d[2],
-        d[3],
-        d[4],
-        d[5],
-        d[6],
-        d[7],
-        d[8],
-        d[9],
-        d[10],
-        d[11],
-        d[12],
-        d[13],
-        d[14],
-        d[15],
-        d[16],
-        d[17],
-        d[18],
-        d[19],
-        d[20],
-        d[21],
-        d[22],
-        e[0],
-        e[1],
-        e[2],
-        e[3],
-        e[4],
-        e[5],
-        e[6],
-        e[7],
-        e[8],
-        e[9],
-        e[10],
-        e[11],
-        e[12],
-        e[13],
-        e[14],
-        e[15],
-        e[16],
-        e[17],
-        e[18],
-        e[19],
-        e[20],
-        e[21],
-        e[22],
-    ]
+    let mut w: FragmentWords = [0; 79];
+    put(&mut w, 56, &e);
+    put(&mut w, 33, &d);
+    w[32] = n;
+    put(&mut w, 4, &r);
+    w[3] = a.total_buffered_bits;
+    w[2] = a.active as u64;
+    w[1] = s.returned;
+    w[0] = s.number;
+    w
 }
 
 fn nothing_said() -> Numbers

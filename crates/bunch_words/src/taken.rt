@@ -10,6 +10,7 @@ ghost use Rattle.bunch_words.specs.Handed.{handedWords};
 use held::BunchError;
 use taking::Handed;
 use taking::Taken;
+use words::inner::put;
 use words::of_header;
 
 pub type HandedWords = [u64; 26];
@@ -55,98 +56,23 @@ pub fn of_taken(r: Taken) -> HandedWords
 {
     let answer = r.answer;
     let a = r.accumulator;
-    let active = a.active as u64;
-    let total = a.total_buffered_bits;
+    let mut w: HandedWords = [0; 26];
+    w[2] = a.active as u64;
+    w[3] = a.total_buffered_bits;
     match answer {
         Handed::Message { header, bit_count } => {
             let h = of_header(header);
-            [
-                0,
-                0,
-                active,
-                total,
-                1,
-                h[0],
-                h[1],
-                h[2],
-                h[3],
-                h[4],
-                h[5],
-                h[6],
-                h[7],
-                h[8],
-                h[9],
-                h[10],
-                h[11],
-                h[12],
-                h[13],
-                h[14],
-                h[15],
-                h[16],
-                h[17],
-                h[18],
-                h[19],
-                bit_count,
-            ]
+            w[4] = 1;
+            put(&mut w, 5, &h);
+            w[25] = bit_count;
+            w
         }
-        Handed::Nothing => [
-            0,
-            0,
-            active,
-            total,
-            0,
-            0,
-            0,
-            0,
-            0,
-            0,
-            0,
-            0,
-            0,
-            0,
-            0,
-            0,
-            0,
-            0,
-            0,
-            0,
-            0,
-            0,
-            0,
-            0,
-            0,
-            0,
-        ],
+        Handed::Nothing => w,
         Handed::Refused(e) => {
             let s = said(e);
-            [
-                s.number,
-                s.returned,
-                active,
-                total,
-                0,
-                0,
-                0,
-                0,
-                0,
-                0,
-                0,
-                0,
-                0,
-                0,
-                0,
-                0,
-                0,
-                0,
-                0,
-                0,
-                0,
-                0,
-                0,
-                0,
-                0,
-                0,
-            ]
+            w[0] = s.number;
+            w[1] = s.returned;
+            w
         }
     }
 }

@@ -31,6 +31,9 @@ module _ (go : ℕ → Run → Run) (n k : ℕ) (x : Run) {whole : Run} (row : t
   unfolding turns
   turn-on h = let less : n - k ≡ suc (n - (k + 1)) = omega arith in ap (λ (m : ℕ). turns go m k x) (sym less) ∙ row
 
+  pub turn-after : {y : Run} → y ≡ go k x → k < n → turns go (n - (k + 1)) (k + 1) y ≡ whole
+  turn-after e h = ap (turns go (n - (k + 1)) (k + 1)) e ∙ turn-on h
+
   pub turns-end : n ≤ k → x ≡ whole
   unfolding turns
   turns-end h = let none : n - k ≡ 0 = omega arith in ap (λ (m : ℕ). turns go m k x) (sym none) ∙ row

@@ -14,6 +14,7 @@ use reading::BunchRead;
 use reading::PacketError;
 use types::RawBunchHeader;
 use window::Window;
+use words::inner::put;
 use words::of_header;
 
 pub type ReaderWords = [u64; 4];
@@ -113,46 +114,15 @@ fn without_bunch(r: BunchRead, said: Numbers, case: u64) -> BunchWords
 fn with_bunch(r: BunchRead, header: RawBunchHeader, w: Window) -> BunchWords
     ensures { λ x. ⌜ x ≡ 0 ∷ 0 ∷ 0 ∷ 0 ∷ r .next .0 ∷ r .bunches ∷ r .malformed ∷ r .«partial_errors» ∷ r .«channel_limit» ∷ r .sequences ∷ r .partials ∷ (headerWords header ++ window w) ⌝ }
 {
-    let next = r.next;
     let start = w.start;
     let position = w.position;
     let h = of_header(header);
-    [
-        0,
-        0,
-        0,
-        0,
-        next.0,
-        r.bunches as u64,
-        r.malformed as u64,
-        r.partial_errors as u64,
-        r.channel_limit as u64,
-        r.sequences as u64,
-        r.partials as u64,
-        h[0],
-        h[1],
-        h[2],
-        h[3],
-        h[4],
-        h[5],
-        h[6],
-        h[7],
-        h[8],
-        h[9],
-        h[10],
-        h[11],
-        h[12],
-        h[13],
-        h[14],
-        h[15],
-        h[16],
-        h[17],
-        h[18],
-        h[19],
-        start.0,
-        position.0,
-        w.length,
-    ]
+    let mut x = without_bunch(r, said(0, 0, 0), 0);
+    put(&mut x, 11, &h);
+    x[31] = start.0;
+    x[32] = position.0;
+    x[33] = w.length;
+    x
 }
 
 pub fn of_read(r: BunchRead) -> BunchWords

@@ -29,7 +29,7 @@ meetable a m used u c (Slot.At i) e bits small = There.meetable a m used u c i e
 meetable a m used u c (Slot.Free i) e bits small = (omega (arith, u .stands), small)
 
 pub meets-few : (a : Accumulator) (ps : List (List ℕ)) (s : Slot) (initial : Bool) (bits : ℕ) (r : Meeting) → Meetable a ps s bits → Meets a ps s initial bits r → (r .held < 2 ^ 32) × (S.bitsOf (r .standing) ≤ 536870912)
-meets-few a ps (Slot.At i) initial bits r q m = (omega (arith, m .held-is, q .2, q .3), omega (arith, m .bits-are, q .2, q .3))
+meets-few a ps (Slot.At i) initial bits r q m = (omega (arith, m .held-is, q .1 .1, q .1 .2), omega (arith, m .bits-are, q .1 .1, q .1 .2))
 meets-few a ps (Slot.Free i) initial bits r q m = (omega (arith, m .held-is), rw (m .standing-is) (omega arith))
 
 -- the same at a slot that is known

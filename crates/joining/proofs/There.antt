@@ -74,7 +74,7 @@ module _ (a : Accumulator) (m : Memory) (used : ℕ) (u : Using a m used) (c i :
   word-fits = good-held c (heldBy a m) (get-there a m (u .stands) c i slot) (kept a m (u .stands) .good) .sequence-word
 
   pub meetable : (bits : ℕ) → bits ≤ 16383 → Meetable a (m .places) (Slot.At i) bits
-  meetable bits small = let g = spot a m used u c i slot in (omega (arith, g), word-fits, omega (arith, g), omega (arith, g), small)
+  meetable bits small = let g = spot a m used u c i slot in (omega (arith, g), (word-fits, omega (arith, g), omega (arith, g), small))
 
   module _ (f : Fragment) (small : f .bits ≤ 16383) (enough : bytesOf (f .bits) ≤ length (f .payload)) (met : Meeting) (meets : MeetsHeld a p (f .header .«b_partial_initial») (f .bits) met)
       (w : Weighed) (answered : PartialBunchResult) (weighs : Weighs met (f .header) (f .bits) w answered) where

@@ -21,9 +21,12 @@ use Rattle.held.specs.Memory.{bitsOf, heldAt}
 use Rattle.adding.specs.declared.inner.Weighed.{Weighed}
 use Rattle.joining.specs.declared.inner.Meeting.{Meeting}
 
--- what the sums need
+-- what the sums need, with a message in place p
+abbrev pub MeetableHeld : Accumulator → List ℕ → ℕ → Type 0
+MeetableHeld a p bits = (getD p 3 0 < 2 ^ 32) × (bitsOf p ≤ a .«total_buffered_bits») × (a .«total_buffered_bits» ≤ 536870912) × (bits ≤ 16383)
+
 abbrev pub Meetable : Accumulator → List (List ℕ) → Slot → ℕ → Type 0
-Meetable a places (Slot.At i) bits = (i < length places) × (getD (getD places i []) 3 0 < 2 ^ 32) × (bitsOf (getD places i []) ≤ a .«total_buffered_bits») × (a .«total_buffered_bits» ≤ 536870912) × (bits ≤ 16383)
+Meetable a places (Slot.At i) bits = (i < length places) × MeetableHeld a (getD places i []) bits
 Meetable a places (Slot.Free i) bits = (a .«total_buffered_bits» ≤ 536870912) × (bits ≤ 16383)
 
 -- the message of place p

@@ -2,8 +2,8 @@
 ghost use mathlib.Core.Path.{_≡_};
 ghost use mathlib.Core.Bool.{cond};
 ghost use mathlib.Core.List.{List, []};
-ghost use Prim.Native.Nat.{ℕ, _≤_, _<_};
-ghost use lib.Dec.{eqb};
+ghost use Prim.Native.Nat.{ℕ, _+_, _-_, _≤_, _<_};
+ghost use lib.Dec.{eqb, ltb};
 ghost use lib.ListN.{length, getD, take, drop};
 ghost use Rattle.tables.specs.declared.Slot.{Slot};
 ghost use Rattle.tables.specs.Tables.{slotOf};
@@ -17,7 +17,7 @@ ghost use Rattle.held.specs.Calls.{heldBy, limitsOf};
 ghost use Rattle.settling.specs.Settling.{Using};
 ghost use Rattle.settling.specs.Giving.{Gives};
 ghost use Rattle.joining.specs.Answers.{ofJudged, outcome};
-ghost use Rattle.joining.specs.Meetings.{MeetsHeld, MeetsNothing, Meets, Meetable, Weighs};
+ghost use Rattle.joining.specs.Meetings.{MeetsHeld, MeetsNothing, Meets, MeetableHeld, Meetable, Weighs};
 use crate::Judged;
 use adding::inner::Weighed;
 use adding::inner::sequence_of;
@@ -97,28 +97,48 @@ pub struct Meeting {
     pub over: bool,
 }
 
+// Whether the buffered limit is passed: the message held counts no more, what is joined of it counts with the payload.
+fn passed(a: Accumulator, held: u64, joins: u64, bits: u64) -> bool
+    requires { ⌜ (joins ≤ held) × (held ≤ a .«total_buffered_bits») × (a .«total_buffered_bits» ≤ 536870912) × (bits ≤ 16383) ⌝ }
+    ensures { λ r. ⌜ r ≡ ltb (a .«max_buffered_bits») (a .«total_buffered_bits» - held + (joins + bits)) ⌝ }
+{
+    a.max_buffered_bits < a.total_buffered_bits - held + (joins + bits)
+}
+
+// A message in place p: its channel has its place already.
+fn meet_held(a: Accumulator, p: Place, initial: bool, bits: u64) -> Meeting
+    requires { ⌜ MeetableHeld a p bits ⌝ }
+    ensures { λ r. ⌜ MeetsHeld a p initial bits r ⌝ }
+{
+    let held = p[0];
+    let joins = kept(initial, held);
+    Meeting {
+        standing: standing_of(p),
+        held,
+        full: false,
+        over: passed(a, held, joins, bits),
+    }
+}
+
+fn meet_nothing(a: Accumulator, bits: u64) -> Meeting
+    requires { ⌜ (a .«total_buffered_bits» ≤ 536870912) × (bits ≤ 16383) ⌝ }
+    ensures { λ r. ⌜ MeetsNothing a bits r ⌝ }
+{
+    Meeting {
+        standing: Standing::Nothing,
+        held: 0,
+        full: a.max_active <= a.active,
+        over: a.max_buffered_bits < a.total_buffered_bits + bits,
+    }
+}
+
 fn meet(a: Accumulator, slot: Slot, places: &[Place], initial: bool, bits: u64) -> Meeting
     requires { ⌜ Meetable a (now places) slot bits ⌝ }
     ensures { λ r. ⌜ Meets a (now (places .entry)) slot initial bits r ⌝ }
 {
     match slot {
-        Slot::At(i) => {
-            let p = places[i];
-            let held = p[0];
-            let joins = kept(initial, held);
-            Meeting {
-                standing: standing_of(p),
-                held,
-                full: false,
-                over: a.max_buffered_bits < a.total_buffered_bits - held + (joins + bits),
-            }
-        }
-        Slot::Free(_) => Meeting {
-            standing: Standing::Nothing,
-            held: 0,
-            full: a.max_active <= a.active,
-            over: a.max_buffered_bits < a.total_buffered_bits + bits,
-        },
+        Slot::At(i) => meet_held(a, places[i], initial, bits),
+        Slot::Free(_) => meet_nothing(a, bits),
     }
 }
 

@@ -1,6 +1,7 @@
 // Packed and serialized numbers for the project's own crates: what the tests before a read show is required.
 ghost use mathlib.Core.Path.{_≡_};
 ghost use Prim.Native.Nat.{_+_, _-_, _≤_, _<_, _^_};
+ghost use lib.Dec.{leb};
 ghost use Rattle.window.specs.Refusals.{placeOf, tooFewBits, endless, tooLarge};
 ghost use Rattle.window.specs.Parse.{refused, advanced};
 ghost use Rattle.numbers.specs.Reads.{packed, log2, serialized};
@@ -100,6 +101,14 @@ fn power(n: u32) -> u64
     1 << n
 }
 
+// Whether no bit follows. The value and its power are below 2^32, so their sum is a word.
+fn is_whole(value: u64, top: u64, max: u32) -> bool
+    requires { ⌜ (value < top) × (top ≤ max) ⌝ }
+    ensures { λ r. ⌜ r ≡ leb max (value + top) ⌝ }
+{
+    value + top >= max as u64
+}
+
 // Both reads are fields of one peeked word; with the second they are one field.
 pub fn serialized(bytes: &[u8], w: Window, max: u32) -> U32Read
     requires { ⌜ Sound (now bytes) w × (0 < max) ⌝ }
@@ -116,7 +125,7 @@ pub fn serialized(bytes: &[u8], w: Window, max: u32) -> U32Read
     let word = words::peek(bytes, start.0 + position.0);
     let top = power(width);
     let value = word % top;
-    if value >= max as u64 - top {
+    if is_whole(value, top, max) {
         return U32Read {
             answer: U32::Value(value as u32),
             next: advance(w, n),

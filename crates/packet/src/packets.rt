@@ -1,6 +1,8 @@
 // The public calls: opening over lent tables, and the bunch at a cursor.
 ghost use mathlib.Core.Path.{_≡_};
+ghost use lib.Dec.{leb, ltb};
 ghost use lib.ListN.{length};
+ghost use Rattle.types.specs.Types.{mostChannels};
 ghost use Rattle.reading.specs.Memory.{Memory, memory, fitting, fit, sound};
 ghost use Rattle.reading.specs.Answers.{ofRead, packetPaper};
 ghost use Rattle.packet.specs.Answers.{ofOpened, opened, readBunch, refuses};
@@ -15,10 +17,17 @@ use reading::inner::read;
 use tables::inner;
 use window::PacketBit;
 
+// A limit on the reader itself, whatever room is lent.
+fn in_limit(limit: usize) -> bool
+    ensures { λ r. ⌜ r ≡ leb limit mostChannels ⌝ }
+{
+    limit <= 4096
+}
+
 fn fitting(limit: usize, a: usize, b: usize, c: usize, d: usize, e: usize) -> bool
     ensures { λ r. ⌜ r ≡ fitting limit a b c d e ⌝ }
 {
-    (limit <= 4096) & (limit <= a) & (limit <= b) & (limit <= c) & (limit <= d) & (limit <= e)
+    in_limit(limit) & (limit <= a) & (limit <= b) & (limit <= c) & (limit <= d) & (limit <= e)
 }
 
 // The Rust's `with_max_channels`: 9 where the limit or the lent room is unfit.
@@ -92,6 +101,13 @@ fn refused(e: PacketError, at: PacketBit, reader: Reader) -> BunchRead
     }
 }
 
+// A cursor at the data's end is not past it: `read` answers there.
+fn past_end(at: PacketBit, bits: u64) -> bool
+    ensures { λ r. ⌜ r ≡ ltb bits (at .0) ⌝ }
+{
+    bits < at.0
+}
+
 // The bunch at a cursor, or why not: 10, 8, then 5 for a cursor past the data's end.
 pub fn read_bunch(
     packet: &[u8],
@@ -127,7 +143,7 @@ pub fn read_bunch(
         );
     }
     let bits = bunch::data_bits(packet);
-    if bits < at.0 {
+    if past_end(at, bits) {
         return refused(
             PacketError::CursorPastEnd {
                 position: at.0,

@@ -1,9 +1,10 @@
 // The sequence of a bunch: the middle of the Rust's `parse_bunch_header`, and what it stores at its end.
 ghost use mathlib.Core.Path.{_≡_};
 ghost use Prim.Native.Nat.{_≤_};
+ghost use lib.Dec.{eqb};
 ghost use lib.ListN.{length};
 ghost use Rattle.tables.specs.Tables.{without};
-ghost use Rattle.continuing.specs.Continuing.{following};
+ghost use Rattle.continuing.specs.Continuing.{following, lastSequence};
 ghost use Rattle.sequences.specs.Sequences.{reliably};
 ghost use Rattle.sequences.specs.Places.{sequencesAt, numberedIn, sequencesLaid, LaidSequences};
 ghost use Rattle.sequences.specs.Fits.{Fits, Live};
@@ -15,6 +16,13 @@ pub struct Numbered {
     pub sequence: u32,
     pub limited: bool,
     pub live: usize,
+}
+
+// Whether no sequence follows.
+fn is_last(sequence: u32) -> bool
+    ensures { λ r. ⌜ r ≡ eqb sequence lastSequence ⌝ }
+{
+    sequence == 2147483647
 }
 
 pub fn reliably(
@@ -30,7 +38,7 @@ pub fn reliably(
     match inner::find(channels, live, channel) {
         Slot::At(i) => {
             let previous = numbers[i];
-            if previous == 2147483647 {
+            if is_last(previous) {
                 return Numbered {
                     sequence: previous,
                     limited: true,

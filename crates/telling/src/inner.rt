@@ -2,13 +2,14 @@
 ghost use mathlib.Core.Path.{_≡_};
 ghost use mathlib.Core.Bool.{false};
 ghost use Prim.Native.Nat.{_+_, _≤_};
+ghost use lib.Dec.{leb};
 ghost use lib.ListN.{length};
 ghost use Rattle.reading.specs.Memory.{memory, channelsOf};
 ghost use Rattle.reading.specs.State.{State};
 ghost use Rattle.lines.specs.Lines.{lineRoom};
 ghost use Rattle.digits.specs.Puts.{Put};
 ghost use Rattle.telling.specs.Listed.{lineOf, raised, closing, listed};
-ghost use Rattle.telling.specs.Turns.{answerText, answerGoesOn, Few, PacketRoom, Tells};
+ghost use Rattle.telling.specs.Turns.{answerText, answerGoesOn, Few, packetRoom, PacketRoom, Tells};
 use bits::inner::signed;
 use lines::BunchLine;
 use lines::PacketLine;
@@ -17,6 +18,13 @@ use reading::BunchRead;
 use reading::Reader;
 use reading::inner::read;
 use types::RawBunchHeader;
+
+// Whether what any packet adds finds room in so many bytes.
+pub fn is_room(bytes: usize) -> bool
+    ensures { λ r. ⌜ r ≡ leb packetRoom bytes ⌝ }
+{
+    1735680 <= bytes
+}
 
 // What the reads of a packet have raised.
 pub struct Sums {

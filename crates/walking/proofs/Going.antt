@@ -1,10 +1,13 @@
 -- The walk while it goes: what the list's first k places hold, and the rest of the walk.
 use mathlib.Core.Path.{_≡_, refl, sym, ap, _∙_}
+use mathlib.Core.Bool.{true, false}
 use mathlib.Core.List.{List, [], _++_}
 use Prim.Native.Nat.{ℕ, suc, _+_, _-_, _≤_, _<_}
 use native.Mathlib.Omega.{arith}
+use lib.Dec.{ltb}
 use lib.ListN.{length, set, take, drop, length-set, take-append-drop, drop-of-length-le}
-use lib.Seq.{drop-cons, append-snoc, drop-set-lt, take-suc-set}
+use lib.Seq.{drop-cons, append-snoc, set-out, drop-set-lt, take-suc-set}
+use borrow.Author.Tests.{ltb-true, ltb-false}
 use Rattle.window.specs.declared.Window.{Window}
 use Rattle.window.specs.Refusals.{placeOf, listFull}
 use Rattle.window.specs.Parse.{Answer, got, refused, Parse}
@@ -42,14 +45,18 @@ module _ {look : Parse Looked} {d : List ℕ} {w₀ : Window} {ps₀ ps : List (
       let q : walk look (suc (bitsLeft w₀ - k)) d (drop k ps) w ≡ stopped (drop k ps) a = rw h e in
       sym p ∙ ap (before (take k ps) k) (sym q) ∙ g .whole
 
-  pub stops-full : {r : Found} {u : Window} → look d w ≡ got (finds r) u → length ps ≤ k
-      → record { places = ps; count = k; answer = refused (listFull (placeOf w)) w } ≡ walked look d ps₀ w₀
-  stops-full h f = stops h (rw (drop-of-length-le ps f))
+  -- a record that finds no place leaves the list as it is
+  pub stops-full : {r : Found} {u : Window} (n : List ℕ) {qs : List (List ℕ)} → look d w ≡ got (finds r) u → ltb k (length ps) ≡ false → qs ≡ set ps k n
+      → record { places = qs; count = k; answer = refused (listFull (placeOf w)) w } ≡ walked look d ps₀ w₀
+  stops-full n h f e =
+      let p : length ps ≤ k = ltb-false k (length ps) f in
+      rw (e ∙ set-out ps k n p) (stops h (rw (drop-of-length-le ps p)))
 
   -- a record that has a place
-  pub goes-on : {r : Found} {u : Window} → look d w ≡ got (finds r) u → k < length ps → On 8 w u → Sound d u → Going look d w₀ ps₀ (set ps k (numbers r)) u (k + 1)
+  pub goes-on : {r : Found} {u : Window} {qs : List (List ℕ)} → look d w ≡ got (finds r) u → ltb k (length ps) ≡ true → qs ≡ set ps k (numbers r) → On 8 w u → Sound d u → Going look d w₀ ps₀ qs u (k + 1)
   unfolding walk
-  goes-on {r} {u} h f o s =
+  goes-on {r} {u} h t e o s =
+      let f : k < length ps = ltb-true k (length ps) t in
       let room : suc k + bitsLeft u ≤ bitsLeft w₀ = omega (arith, g .room, on-less o s) in
       let n : bitsLeft w₀ - k ≡ suc (bitsLeft w₀ - suc k) = omega (arith, room) in
       let x = walk look (suc (bitsLeft w₀ - suc k)) d (drop (suc k) ps) u in
@@ -61,7 +68,7 @@ module _ {look : Parse Looked} {d : List ℕ} {w₀ : Window} {ps₀ ps : List (
       rw (take-suc-set ps k (numbers r) f, drop-set-lt (suc k) ps k (numbers r) (omega arith), append-snoc (take k ps) (numbers r) (x .places)) (same refl (omega arith))
       in
       let q : k + 1 ≡ suc k = omega arith in
-      rw q
+      rw (e, q)
       (record {
         sound = s;
         room = room;

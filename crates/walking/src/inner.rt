@@ -1,11 +1,13 @@
 // One record at a time, in a window that has been tested.
 ghost use mathlib.Core.Path.{_≡_};
 ghost use Prim.Native.Nat.{_≤_, _<_, max};
+ghost use lib.Dec.{ltb};
+ghost use lib.ListN.{length, set};
 ghost use Rattle.window.specs.Sound.{Sound};
 ghost use Rattle.walking.specs.Records.{bitsLeft, counted, repLayout, call, classNetCache, look, ofStep};
 ghost use Rattle.window.specs.Parse.{got, refused};
 ghost use Rattle.window.specs.Refusals.{placeOf, listFull};
-ghost use Rattle.walking.specs.Walks.{abandoned, atEnd, walked};
+ghost use Rattle.walking.specs.Walks.{abandoned, atEnd, numbers, walked};
 ghost use Rattle.walking.specs.Answers.{stopAnswer, ofWalk};
 use crate::FieldError;
 use crate::Record;
@@ -193,6 +195,24 @@ pub fn look(bytes: &[u8], w: Window, kind: Kind) -> StepRead
     }
 }
 
+// A record as its place has it.
+fn numbers_of(handle: u32, bits: u32, in_window: WindowBit, in_packet: PacketBit) -> Record
+    ensures { λ r. ⌜ r ≡ numbers (record { handle = handle; bits = bits; inWindow = «in_window» .0; inPacket = «in_packet» .0 }) ⌝ }
+{
+    [handle as u64, bits as u64, in_window.0, in_packet.0]
+}
+
+// Whether there is a place k; the record then stands in it.
+fn put(records: &mut [Record], k: usize, record: Record) -> bool
+    ensures { λ r. ⌜ (r ≡ ltb k (length (now (records .entry)))) × (now (records .exit) ≡ set (now (records .entry)) k «record») ⌝ }
+{
+    if records.len() <= k {
+        return false;
+    }
+    records[k] = record;
+    true
+}
+
 // A place for each record, in order.
 pub fn walk(bytes: &[u8], w: Window, kind: Kind, records: &mut [Record]) -> Walk
     requires { ⌜ Sound (now bytes) w ⌝ }
@@ -228,10 +248,10 @@ pub fn walk(bytes: &[u8], w: Window, kind: Kind, records: &mut [Record]) -> Walk
                 in_window,
                 in_packet,
             } => {
-                if records.len() <= k {
+                let placed = put(records, k, numbers_of(handle, bits, in_window, in_packet));
+                if !placed {
                     return full(at, k as u64);
                 }
-                records[k] = [handle as u64, bits as u64, in_window.0, in_packet.0];
             }
         }
         k += 1;

@@ -7,6 +7,8 @@ use types::ChannelCloseReason;
 use types::PartialSequenceKind;
 use types::RawBunchHeader;
 
+pub mod inner;
+
 pub type HeaderWords = [u64; 20];
 
 fn reason_word(r: ChannelCloseReason) -> u64

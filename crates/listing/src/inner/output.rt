@@ -23,8 +23,8 @@ pub fn with_room(out: &[u8], used: usize) -> usize
     requires { ⌜ (used ≤ length (now out)) × (packetRoom ≤ length (now out)) ⌝ }
     ensures { λ r. ⌜ PacketRoom (now (out .entry)) r ⌝ }
 {
-    if out.len() - used < 1735680 {
-        return flush(out, used);
+    if telling::inner::is_room(out.len() - used) {
+        return used;
     }
-    used
+    flush(out, used)
 }

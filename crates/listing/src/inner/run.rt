@@ -31,15 +31,30 @@ fn other_version(out: &mut [u8], version: u8)
     io::write_all(STDERR_FILENO, b"the log is of another version\n");
 }
 
-// Nothing more was read: `left` bytes of a record are cut, or the log is whole.
-fn finish(out: &mut [u8], used: usize, left: usize, offset: u64)
-    requires { ⌜ PacketRoom (now out) used ⌝ }
+fn not_ours(out: &mut [u8], version: Version)
+    requires { ⌜ PacketRoom (now out) 0 ⌝ }
 {
+    match version {
+        Version::Missing => cut(out, 0, 0),
+        Version::Other(number) => other_version(out, number),
+        Version::Ours => {}
+    }
+}
+
+// Where nothing more was read the listing ends, and no turn is left: `left` bytes of a record are cut, or the log is whole.
+fn finish(out: &mut [u8], used: usize, left: usize, part: Part, turns: u64) -> u64
+    requires { ⌜ PacketRoom (now out) used ⌝ }
+    ensures { λ r. ⌜ r ≤ turns ⌝ }
+{
+    if part.held != left {
+        return turns;
+    }
     if left > 0 {
-        cut(out, used, offset);
-        return;
+        cut(out, used, part.before);
+        return 0;
     }
     output::flush(out, used);
+    0
 }
 
 // Two bytes hold its length, so a packet is never above 65,535 bytes.
@@ -105,14 +120,7 @@ fn records(
             let left = held - at;
             part = input::refill(buffer, part, at);
             at = 0;
-            if part.held == left {
-                finish(out, used, left, part.before);
-                return Reader {
-                    max_channels: 4096,
-                    sequences,
-                    partials,
-                };
-            }
+            turns = finish(out, used, left, part, turns);
         }
     }
     Reader {
@@ -135,23 +143,11 @@ pub fn list(
     requires { ⌜ PacketRoom (now out) 0 × State 4096 0 0 (memory (now «sequence_channels») (now «sequence_numbers») (now «partial_channels») (now «partial_sequences») (now «partial_reliables»)) ⌝ }
     ensures { λ r. ⌜ State 4096 (r .sequences) (r .partials) (memory (now («sequence_channels» .exit)) (now («sequence_numbers» .exit)) (now («partial_channels» .exit)) (now («partial_sequences» .exit)) (now («partial_reliables» .exit))) ⌝ }
 {
-    let none = Reader {
-        max_channels: 4096,
-        sequences: 0,
-        partials: 0,
-    };
     let part = input::refill(buffer, Part { before: 0, held: 0 }, 0);
     let held = part.held;
-    match log::reading::version(&buffer[..held]) {
-        Version::Missing => {
-            cut(out, 0, 0);
-            none
-        }
-        Version::Other(version) => {
-            other_version(out, version);
-            none
-        }
-        Version::Ours => records(
+    let version = log::reading::version(&buffer[..held]);
+    if let Version::Ours = version {
+        return records(
             buffer,
             out,
             part,
@@ -160,6 +156,12 @@ pub fn list(
             partial_channels,
             partial_sequences,
             partial_reliables,
-        ),
+        );
+    }
+    not_ours(out, version);
+    Reader {
+        max_channels: 4096,
+        sequences: 0,
+        partials: 0,
     }
 }

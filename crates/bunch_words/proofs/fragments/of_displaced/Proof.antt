@@ -5,7 +5,19 @@ use Rattle.bunch_words.proofs.fragments.of_displaced.Statement.{stateme
 use Rattle.bunch_words.proofs.fragments.of_displaced.Tie as tie
 
 returns : tie.Need-returns
-returns c = rw (c .before .before .of-header .ensures, c .before .cause-word .ensures, c .cause-value .ensures) refl
+returns c = rw (c .before .put .ensures, c .before .before .before .before .before .before .of-header .ensures, c .before .before .before .before .before .cause-word .ensures, c .before .before .before .before .cause-value .ensures) refl
 
 pub of-displaced-spec : {M : Type 1} → statement M
-of-displaced-spec = tie.close (tie.spec (λ c κs. search needs) (λ c κs. search needs) (λ c κs. search needs) (λ c. search needs) (λ c. search needs) (λ c. search needs) (λ c. search needs) (λ c. search needs) (λ c. search needs) (λ c. search needs) (λ c. search needs) (λ c. search needs) (λ c. search needs) (λ c. search needs) (λ c. search needs) (λ c. search needs) (λ c. search needs) (λ c. search needs) (λ c. search needs) (λ c. search needs) (λ c. search needs) (λ c. search needs) (λ c. search needs) returns)
+of-displaced-spec =
+    tie.close
+    (tie.spec
+    (λ c κs. search needs)
+    (λ c κs. search needs)
+    (λ c κs. search needs)
+    (λ c. search needs)
+    (λ c. search needs)
+    (λ c κs. search needs)
+    (λ c. search needs)
+    (λ c. search needs)
+    (λ c. search needs)
+    returns)

@@ -5,7 +5,24 @@ use Rattle.bunch_words.proofs.fragments.of_result.Statement.{statement}
 use Rattle.bunch_words.proofs.fragments.of_result.Tie as tie
 
 returns : tie.Need-returns
-returns c = rw (c .before .before .before .before .of-header .ensures, c .before .before .before .limit .ensures, c .before .before .kind-word .ensures) refl
+returns c = rw (c .before .put2 .ensures, c .before .before .before .before .before .put .ensures, c .before .before .before .before .before .before .before .before .before .before .before .before .of-header .ensures, c .before .before .before .before .before .before .before .before .before .before .before .limit .ensures, c .before .before .before .before .before .before .before .before .before .before .kind-word .ensures) refl
 
 pub of-result-spec : {M : Type 1} → statement M
-of-result-spec = tie.close (tie.spec (λ c. search needs) (λ c. search needs) (λ c. search needs) (λ c κs. search needs) (λ c κs. search needs) (λ c κs. search needs) (λ c. search needs) (λ c. search needs) (λ c. search needs) (λ c. search needs) (λ c. search needs) (λ c. search needs) (λ c. search needs) (λ c. search needs) (λ c. search needs) (λ c. search needs) (λ c. search needs) (λ c. search needs) (λ c. search needs) (λ c. search needs) (λ c. search needs) (λ c. search needs) (λ c. search needs) (λ c. search needs) (λ c. search needs) (λ c. search needs) (λ c. search needs) (λ c. search needs) returns)
+of-result-spec =
+    tie.close
+    (tie.spec
+    (λ c. search needs)
+    (λ c. search needs)
+    (λ c. search needs)
+    (λ c κs. search needs)
+    (λ c κs. search needs)
+    (λ c κs. search needs)
+    (λ c. search needs)
+    (λ c. search needs)
+    (λ c. search needs)
+    (λ c. search needs)
+    (λ c κs. search needs)
+    (λ c. search needs)
+    (λ c. search needs)
+    (λ c κs. search needs)
+    returns)

@@ -7,7 +7,7 @@ use Rattle.bunch_words.proofs.taken.of_taken.Tie as tie
 
 returns : tie.Need-returns
 unfolding handedWords
-returns c = λ m o. rw (c .before .before .answer .given .1, c .of-header .ensures) refl
+returns c = λ m o. rw (c .before .before .before .before .before .before .answer .given .1, c .before .put .ensures, c .before .before .before .before .of-header .ensures) refl
 
 returns-2 : tie.Need-returns-2
 unfolding handedWords
@@ -18,4 +18,23 @@ unfolding handedWords
 returns-3 c = λ m o. rw (c .before .before .answer2 .given .1, c .said .ensures) refl
 
 pub of-taken-spec : {M : Type 1} → statement M
-of-taken-spec = tie.close (tie.spec (λ c. search needs) (λ c κs. search needs) (λ c. search needs) (λ c. search needs) (λ c. search needs) (λ c. search needs) (λ c. search needs) (λ c. search needs) (λ c. search needs) (λ c. search needs) (λ c. search needs) (λ c. search needs) (λ c. search needs) (λ c. search needs) (λ c. search needs) (λ c. search needs) (λ c. search needs) (λ c. search needs) (λ c. search needs) (λ c. search needs) (λ c. search needs) (λ c. search needs) (λ c. search needs) (λ c. search needs) (λ c κs. search needs) returns returns-2 returns-3)
+of-taken-spec =
+    tie.close
+    (tie.spec
+    (λ c. search needs)
+    (λ c. search needs)
+    (λ c. search needs)
+    (λ c κs. search needs)
+    (λ c. search needs)
+    (λ c. search needs)
+    (λ c. search needs)
+    (λ c κs. search needs)
+    (λ c. search needs)
+    (λ c. search needs)
+    (λ c. search needs)
+    (λ c κs. search needs)
+    (λ c. search needs)
+    (λ c. search needs)
+    returns
+    returns-2
+    returns-3)

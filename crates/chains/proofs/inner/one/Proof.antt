@@ -1,4 +1,5 @@
 -- One call, or two.
+use mathlib.Core.Path.{_∙_}
 use Rattle.held.specs.Memory.{memory}
 use Rattle.chains.specs.Chains.{run}
 use Rattle.chains.proofs.Turning.{goes-on, ends}
@@ -27,13 +28,13 @@ one-spec =
     (λ c κs. search needs)
     (λ c κs. search needs)
     (λ c κs. search needs)
-    (λ c. search needs)
-    (λ c. search needs)
-    (λ c. search needs)
-    (λ c. search needs)
+    (λ c. c .before .before .before .before .before .before .channels2 .given ∙ c .before .before .before .before .before .before .before .before .before .before .before .before .before .before .before .before .before .before .before .before .before .channels .given)
+    (λ c. c .before .before .before .before .places2 .given ∙ c .before .before .before .before .before .before .before .before .before .before .before .before .before .before .before .before .before .before .before .places .given)
+    (λ c. c .before .before .before .arena2 .given ∙ c .before .before .before .before .before .before .before .before .before .before .before .before .before .before .before .before .before .before .arena .given)
+    (λ c. c .before .output2 .given ∙ c .before .before .before .before .before .before .before .before .before .before .before .before .before .before .before .before .output .given)
     returns
-    (λ c. search needs)
-    (λ c. search needs)
-    (λ c. search needs)
-    (λ c. search needs)
+    (λ c. c .before .before .before .before .before .before .before .channels .given)
+    (λ c. c .before .before .before .before .before .places .given)
+    (λ c. c .before .before .before .before .arena .given)
+    (λ c. c .before .before .output .given)
     returns-2)

@@ -8,7 +8,7 @@ use borrow.Author.Needs.{needs}
 use Rattle.held.specs.Memory.{memory}
 use Rattle.settling.specs.Settling.{Using}
 use Rattle.chains.specs.Chains.{Run, run, turn, turns, payloadOf, chains}
-use Rattle.chains.proofs.Running.{turn-on, turns-end, turns-begin}
+use Rattle.chains.proofs.Running.{turn-after, turns-end, turns-begin}
 use Rattle.chains.proofs.inner.timing_chains.Statement.{statement}
 use Rattle.chains.proofs.inner.timing_chains.Tie as tie
 
@@ -31,11 +31,9 @@ loop-again c =
     let o = c .before .before .before .before .before .before .before .before .before in
     let l = o .before .before .before .before .before .before .before .before .loop in
     let x = o .before .before .before .before .before .before .before .before .before .before .before .before .before .args in
-    let n = length (x .headers .now) in
     let cut : l .k % 61 * 1000 + 1000 - l .k % 61 * 1000 ≡ 1000 = omega arith in (
-      ap (turns (going (x .payloads .now) (x .headers .now)) (n - (l .k + 1)) (l .k + 1)) (rw cut at (o .one .ensures .0))
-          ∙ turn-on (going (x .payloads .now) (x .headers .now)) n (l .k) (run (l .a) (memory (l .channels) (l .places) (l .arena)) (l .output) (l .sum)) (l .inv .0) (search needs),
-      (o .one .ensures .1, (search needs, (search needs, (search needs, search needs)))),
+      turn-after (going (x .payloads .now) (x .headers .now)) (length (x .headers .now)) (l .k) (run (l .a) (memory (l .channels) (l .places) (l .arena)) (l .output) (l .sum)) (l .inv .0) (rw cut at (o .one .ensures .0)) (search needs),
+      (o .one .ensures .1, (c .before .before .before .before .before .before .before .before .channels .given ∙ l .inv .1 .1 .0, (c .before .before .before .before .before .before .places .given ∙ l .inv .1 .1 .1 .0, (c .before .before .before .before .before .arena .given ∙ l .inv .1 .1 .1 .1 .0, c .before .before .before .output .given ∙ l .inv .1 .1 .1 .1 .1)))),
     )
 
 returns : tie.Need-returns Inv-loop μ-loop
@@ -68,8 +66,8 @@ timing-chains-spec =
     (λ c κs. search needs)
     (λ c. search needs)
     loop-again
-    (λ c. search needs)
-    (λ c. search needs)
-    (λ c. search needs)
-    (λ c. search needs)
+    (λ c. c .before .before .loop .inv .1 .1 .0)
+    (λ c. c .before .before .loop .inv .1 .1 .1 .0)
+    (λ c. c .before .before .loop .inv .1 .1 .1 .1 .0)
+    (λ c. c .before .before .loop .inv .1 .1 .1 .1 .1)
     returns)

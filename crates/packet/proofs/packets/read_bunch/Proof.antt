@@ -1,6 +1,6 @@
 -- The tests are laws of Calls; past them `read`, whose state the first test showed.
 use mathlib.Core.Path.{sym, ap, _∙_}
-use borrow.Author.Tests.{not-true, not-false}
+use borrow.Author.Tests.{ltb-true, ltb-false, not-true, not-false}
 use mir.Syntax.{w32}
 use mir.Val.{ofZ}
 use mir.ValLaws.{toZ-ofZ}
@@ -27,21 +27,21 @@ returns-3 c =
     let is = c .before .before .before .data-bits .ensures .0 in
     let m = memory (a .sequence-channels .now) (a .sequence-numbers .now) (a .partial-channels .now) (a .partial-sequences .now) (a .partial-reliables .now) in
     rw is at (c .refused3 .ensures m)
-    ∙ five (a .packet .now) (a .packet-id) (a .at .0) (a .reader) _ (sym (c .before .before .before .before .before .before .sound .ensures) ∙ not-false _ (c .before .before .before .before .before .if1 .left)) (c .before .before .before .before .if2 .left) (rw is at (c .before .if3 .taken))
+    ∙ five (a .packet .now) (a .packet-id) (a .at .0) (a .reader) _ (sym (c .before .before .before .before .before .before .sound .ensures) ∙ not-false _ (c .before .before .before .before .before .if1 .left)) (c .before .before .before .before .if2 .left) (ltb-true _ _ (rw is at (sym (c .before .before .past-end .ensures) ∙ c .before .if3 .taken)))
 
 read-requires : tie.Need-read-requires
 read-requires c κs =
     let a = c .before .before .before .before .before .before .before .before .before .before .before .before .before .before .before .before .before .before .before .before .before .before .before .args in
     let r = a .reader in
     let m = memory (a .sequence-channels .now) (a .sequence-numbers .now) (a .partial-channels .now) (a .partial-sequences .now) (a .partial-reliables .now) in
-    (state (r .«max_channels») (r .sequences) (r .partials) m (sym (c .before .before .before .before .before .before .before .before .before .before .before .sound .ensures) ∙ not-false _ (c .before .before .before .before .before .before .before .before .before .before .if1 .left)), c .before .before .before .before .before .before .before .before .before .if2 .left, rw (c .before .before .before .before .before .before .before .before .data-bits .ensures .0) at (c .before .before .before .before .before .before .if3 .left))
+    (state (r .«max_channels») (r .sequences) (r .partials) m (sym (c .before .before .before .before .before .before .before .before .before .before .before .sound .ensures) ∙ not-false _ (c .before .before .before .before .before .before .before .before .before .before .if1 .left)), c .before .before .before .before .before .before .before .before .before .if2 .left, ltb-false _ _ (rw (c .before .before .before .before .before .before .before .before .data-bits .ensures .0) at (sym (c .before .before .before .before .before .before .before .past-end .ensures) ∙ c .before .before .before .before .before .before .if3 .left)))
 
 returns-4 : tie.Need-returns-4
 returns-4 c =
     let a = c .before .before .before .before .before .before .before .before .before .before .before .before .before .before .before .before .before .before .before .before .before .before .before .before .before .before .before .before .before .before .before .before .before .before .args in
     let is = c .before .before .before .before .before .before .before .before .before .before .before .before .before .before .before .before .to-word .ensures ∙ ap (ofZ w32) (toZ-ofZ w32 (a .packet-id) (c .before .before .before .before .before .before .before .before .before .before .before .before .before .before .before .before .before .before .before .before .before .before .before .before .before .before .before .before .before .before .before .before .before .before .fits .packet-id)) in
     rw is at (c .before .before .before .before .before .before .before .before .before .before .read .ensures .0)
-    ∙ answered (a .packet .now) (a .packet-id) (a .at .0) (a .reader) _ (sym (c .before .before .before .before .before .before .before .before .before .before .before .before .before .before .before .before .before .before .before .before .before .before .sound .ensures) ∙ not-false _ (c .before .before .before .before .before .before .before .before .before .before .before .before .before .before .before .before .before .before .before .before .before .if1 .left)) (c .before .before .before .before .before .before .before .before .before .before .before .before .before .before .before .before .before .before .before .before .if2 .left) (rw (c .before .before .before .before .before .before .before .before .before .before .before .before .before .before .before .before .before .before .before .data-bits .ensures .0) at (c .before .before .before .before .before .before .before .before .before .before .before .before .before .before .before .before .before .if3 .left))
+    ∙ answered (a .packet .now) (a .packet-id) (a .at .0) (a .reader) _ (sym (c .before .before .before .before .before .before .before .before .before .before .before .before .before .before .before .before .before .before .before .before .before .before .sound .ensures) ∙ not-false _ (c .before .before .before .before .before .before .before .before .before .before .before .before .before .before .before .before .before .before .before .before .before .if1 .left)) (c .before .before .before .before .before .before .before .before .before .before .before .before .before .before .before .before .before .before .before .before .if2 .left) (ltb-false _ _ (rw (c .before .before .before .before .before .before .before .before .before .before .before .before .before .before .before .before .before .before .before .data-bits .ensures .0) at (sym (c .before .before .before .before .before .before .before .before .before .before .before .before .before .before .before .before .before .before .past-end .ensures) ∙ c .before .before .before .before .before .before .before .before .before .before .before .before .before .before .before .before .before .if3 .left)))
 
 pub read-bunch-spec : {M : Type 1} → statement M
 read-bunch-spec =
@@ -62,6 +62,7 @@ read-bunch-spec =
     (λ c. search needs)
     (λ c. search needs)
     returns-2
+    (λ c κs. search needs)
     (λ c κs. search needs)
     (λ c κs. search needs)
     (λ c. search needs)

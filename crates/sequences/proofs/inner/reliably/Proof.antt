@@ -2,9 +2,10 @@
 use Prim.Native.Nat.{suc, _+_, _≤_}
 use mathlib.Core.Path.{_≡_, sym, _∙_}
 use native.Mathlib.Omega.{arith}
-use lib.ListN.{length}
+use lib.ListN.{length, getD}
 use Rattle.sequences.proofs.Numbering.{at-inside, at-last, at-next, free-inside, free-full, free-new}
 use borrow.Author.Needs.{needs}
+use borrow.Author.Tests.{eqb-true, eqb-false}
 use Rattle.sequences.proofs.inner.reliably.Statement.{statement}
 use Rattle.sequences.proofs.inner.reliably.Tie as tie
 
@@ -32,22 +33,22 @@ slice-read-previous c =
 
 returns : tie.Need-returns
 returns c =
-    let a = c .before .before .before .before .before .before .before .before .before .args in
-    let p = c .before .before .before .before .before .before .before .before .before .pre in
-    sym (at-last (a .channels .now) (a .numbers .now) (p .0) (p .1) (a .channel) (c .before .before .before .i .given .0 .0) (sym (c .before .before .before .before .before .find .ensures) ∙ c .before .before .before .i .given .1) (c .if1 .taken))
+    let a = c .before .before .before .before .before .before .before .before .before .before .args in
+    let p = c .before .before .before .before .before .before .before .before .before .before .pre in
+    sym (at-last (a .channels .now) (a .numbers .now) (p .0) (p .1) (a .channel) (c .before .before .before .before .i .given .0 .0) (sym (c .before .before .before .before .before .before .find .ensures) ∙ c .before .before .before .before .i .given .1) (eqb-true (getD (a .numbers .now) (c .before .before .before .before .i .given .0 .0) 0) 2147483647 (sym (c .before .is-last .ensures) ∙ c .if1 .taken)))
 
 mul-numbers : tie.Need-mul-numbers
 mul-numbers c =
-    let a = c .before .before .before .before .before .before .before .before .before .before .args in
-    let p = c .before .before .before .before .before .before .before .before .before .before .pre in
-    let h = at-inside (a .channels .now) (a .numbers .now) (p .0) (p .1) (a .channel) (c .before .before .before .before .i .given .0 .0) (sym (c .before .before .before .before .before .before .find .ensures) ∙ c .before .before .before .before .i .given .1) in
+    let a = c .before .before .before .before .before .before .before .before .before .before .before .args in
+    let p = c .before .before .before .before .before .before .before .before .before .before .before .pre in
+    let h = at-inside (a .channels .now) (a .numbers .now) (p .0) (p .1) (a .channel) (c .before .before .before .before .before .i .given .0 .0) (sym (c .before .before .before .before .before .before .before .find .ensures) ∙ c .before .before .before .before .before .i .given .1) in
     omega (arith, h, p .0 .few, p .0 .live-fits)
 
 slice-write-numbers : tie.Need-slice-write-numbers
 slice-write-numbers c =
-    let a = c .before .before .before .before .before .before .before .before .before .before .args in
-    let p = c .before .before .before .before .before .before .before .before .before .before .pre in
-    let h = at-inside (a .channels .now) (a .numbers .now) (p .0) (p .1) (a .channel) (c .before .before .before .before .i .given .0 .0) (sym (c .before .before .before .before .before .before .find .ensures) ∙ c .before .before .before .before .i .given .1) in
+    let a = c .before .before .before .before .before .before .before .before .before .before .before .args in
+    let p = c .before .before .before .before .before .before .before .before .before .before .before .pre in
+    let h = at-inside (a .channels .now) (a .numbers .now) (p .0) (p .1) (a .channel) (c .before .before .before .before .before .i .given .0 .0) (sym (c .before .before .before .before .before .before .before .find .ensures) ∙ c .before .before .before .before .before .i .given .1) in
     omega (arith, h, p .1, p .0 .live-fits)
 
 returns-2 : tie.Need-returns-2
@@ -72,10 +73,10 @@ insert-requires-2 c κs =
 
 returns-3 : tie.Need-returns-3
 returns-3 c =
-    let a = c .before .before .before .before .before .before .before .before .before .before .args in
-    let p = c .before .before .before .before .before .before .before .before .before .before .pre in
+    let a = c .before .before .before .before .before .before .before .before .before .before .before .args in
+    let p = c .before .before .before .before .before .before .before .before .before .before .before .pre in
     rw (c .following .ensures)
-    (sym (at-next (a .channels .now) (a .numbers .now) (p .0) (p .1) (a .channel) (c .before .before .before .before .i .given .0 .0) (sym (c .before .before .before .before .before .before .find .ensures) ∙ c .before .before .before .before .i .given .1) (c .before .if1 .left)))
+    (sym (at-next (a .channels .now) (a .numbers .now) (p .0) (p .1) (a .channel) (c .before .before .before .before .before .i .given .0 .0) (sym (c .before .before .before .before .before .before .before .find .ensures) ∙ c .before .before .before .before .before .i .given .1) (eqb-false (getD (a .numbers .now) (c .before .before .before .before .before .i .given .0 .0) 0) 2147483647 (sym (c .before .before .is-last .ensures) ∙ c .before .if1 .left))))
 
 returns-4 : tie.Need-returns-4
 returns-4 c =
@@ -93,6 +94,7 @@ reliably-spec =
     (λ c. search needs)
     mul-previous
     slice-read-previous
+    (λ c κs. search needs)
     (λ c. search needs)
     returns
     (λ c κs. search needs)

@@ -5,6 +5,9 @@ use borrow.Author.Needs.{needs}
 use Rattle.taking.proofs.inner.retire_channel.Statement.{statement}
 use Rattle.taking.proofs.inner.retire_channel.Tie as tie
 
+hand-out-requires : tie.Need-hand-out-requires
+hand-out-requires c κs = (c .before .before .before .before .before .before .before .before .before .before .before .before .pre, sym (c .before .before .before .before .before .before .before .find .ensures) ∙ c .before .before .before .before .before .i .given .1)
+
 returns : tie.Need-returns-2
 returns c = let a = c .before .before .before .before .before .before .before .before .args in retired-nothing _ _ _ (c .before .before .before .before .before .before .before .before .pre) _ _ (sym (c .before .before .before .find .ensures) ∙ c .before .enum-told .given .1) (a .output .now) (c .unchanged .ensures)
 
@@ -14,7 +17,7 @@ retire-channel-spec =
     (tie.spec
     (λ c κs. search needs)
     (λ c. search needs)
-    (λ c κs. (c .before .before .before .before .before .before .before .before .before .before .before .before .pre, sym (c .before .before .before .before .before .before .before .find .ensures) ∙ c .before .before .before .before .before .i .given .1))
+    hand-out-requires
     (λ c. search needs)
     (λ c κs. search needs)
     (λ c. search needs)

@@ -1,6 +1,8 @@
 -- `Going` holds at each record; the ways out are one law of Going.
 use mathlib.Core.Path.{refl, ap, sym, _∙_}
+use lib.ListN.{length, length-set}
 use borrow.Author.Needs.{needs}
+use borrow.Author.Tests.{ltb-true, not-true, not-false}
 use Rattle.walking.specs.declared.inner.Step.{Step}
 use Rattle.walking.specs.Records.{lookedAt, look, bitsLeft}
 use Rattle.walking.proofs.Moves.{moves-look}
@@ -53,35 +55,38 @@ returns-3 c = rw (c .abandon .ensures .0, c .abandon .ensures .1) (stops (c .bef
 enum-known-answer-2 : tie.Need-enum-known-answer-2 Inv-loop μ-loop
 enum-known-answer-2 c = search needs
 
+numbers-of-requires : tie.Need-numbers-of-requires Inv-loop μ-loop
+numbers-of-requires c κs = search needs
+
+put-requires : tie.Need-put-requires Inv-loop μ-loop
+put-requires c κs = search needs
+
 full-requires : tie.Need-full-requires Inv-loop μ-loop
 full-requires c κs = search needs
 
 same-length-4 : tie.Need-same-length-4 Inv-loop μ-loop
-same-length-4 c = c .before .before .before .before .before .before .before .loop .inv .size
+same-length-4 c = rw (c .before .before .before .put .ensures .1) (length-set (c .before .before .before .before .before .before .before .before .before .before .before .loop .records) (c .before .before .before .before .before .before .before .before .before .before .before .loop .k) (c .before .before .before .before .numbers-of .result) ∙ c .before .before .before .before .before .before .before .before .before .before .before .loop .inv .size)
 
 returns-4 : tie.Need-returns-4 Inv-loop μ-loop
-returns-4 c = rw (c .full .ensures .0, c .full .ensures .1) (stops-full (c .before .before .before .before .before .before .before .loop .inv) (sym (c .before .before .before .before .before .before .look .ensures .0) ∙ ap (λ (x : Step). lookedAt x (c .before .before .before .before .before .before .look .result .next)) (c .before .before .before .answer2 .given .1)) (c .before .if1 .taken))
-
-cast-t24 : tie.Need-cast-t24 Inv-loop μ-loop
-cast-t24 c = search needs
-
-cast-t25 : tie.Need-cast-t25 Inv-loop μ-loop
-cast-t25 c = search needs
-
-mul-t21 : tie.Need-mul-t21 Inv-loop μ-loop
-mul-t21 c = search needs
-
-slice-set-from-records : tie.Need-slice-set-from-records Inv-loop μ-loop
-slice-set-from-records c = search needs
+returns-4 c = rw (c .full .ensures .0, c .full .ensures .1) (stops-full (c .before .before .before .before .before .before .before .before .before .before .before .loop .inv) (c .before .before .before .before .numbers-of .result) (sym (c .before .before .before .before .before .before .before .before .before .before .look .ensures .0) ∙ ap (λ (x : Step). lookedAt x (c .before .before .before .before .before .before .before .before .before .before .look .result .next)) (c .before .before .before .before .before .before .before .answer2 .given .1)) (sym (c .before .before .before .put .ensures .0) ∙ not-true _ (c .before .if1 .taken)) (c .before .before .before .put .ensures .1))
 
 add-k : tie.Need-add-k Inv-loop μ-loop
-add-k c = search needs
+add-k c =
+    let placed = ltb-true (c .before .before .before .before .before .before .before .before .before .before .loop .k) (length (c .before .before .before .before .before .before .before .before .before .before .loop .records)) (sym (c .before .before .put .ensures .0) ∙ not-false _ (c .if1 .left)) in
+    search needs
 
 loop-less : tie.Need-loop-less Inv-loop μ-loop
-loop-less c = on-less (moves-look (c .before .before .before .before .before .before .before .before .args .kind) .moves (c .before .before .before .before .before .before .before .before .args .bytes .now) (c .before .before .before .before .before .before .loop .at) (sym (c .before .before .before .before .before .look .ensures .0) ∙ ap (λ (x : Step). lookedAt x (c .before .before .before .before .before .look .result .next)) (c .before .before .answer2 .given .1))) (c .before .before .before .before .before .look .ensures .1)
+loop-less c = on-less (moves-look (c .before .before .before .before .before .before .before .before .before .before .before .before .args .kind) .moves (c .before .before .before .before .before .before .before .before .before .before .before .before .args .bytes .now) (c .before .before .before .before .before .before .before .before .before .before .loop .at) (sym (c .before .before .before .before .before .before .before .before .before .look .ensures .0) ∙ ap (λ (x : Step). lookedAt x (c .before .before .before .before .before .before .before .before .before .look .result .next)) (c .before .before .before .before .before .before .answer2 .given .1))) (c .before .before .before .before .before .before .before .before .before .look .ensures .1)
 
 loop-again : tie.Need-loop-again Inv-loop μ-loop
-loop-again c = goes-on (c .before .before .before .before .before .before .loop .inv) (sym (c .before .before .before .before .before .look .ensures .0) ∙ ap (λ (x : Step). lookedAt x (c .before .before .before .before .before .look .result .next)) (c .before .before .answer2 .given .1)) (c .if1 .left) (moves-look (c .before .before .before .before .before .before .before .before .args .kind) .moves (c .before .before .before .before .before .before .before .before .args .bytes .now) (c .before .before .before .before .before .before .loop .at) (sym (c .before .before .before .before .before .look .ensures .0) ∙ ap (λ (x : Step). lookedAt x (c .before .before .before .before .before .look .result .next)) (c .before .before .answer2 .given .1))) (c .before .before .before .before .before .look .ensures .1)
+loop-again c =
+    goes-on
+    (c .before .before .before .before .before .before .before .before .before .before .loop .inv)
+    (sym (c .before .before .before .before .before .before .before .before .before .look .ensures .0) ∙ ap (λ (x : Step). lookedAt x (c .before .before .before .before .before .before .before .before .before .look .result .next)) (c .before .before .before .before .before .before .answer2 .given .1))
+    (sym (c .before .before .put .ensures .0) ∙ not-false _ (c .if1 .left))
+    (rw (c .before .before .before .numbers-of .ensures) at (c .before .before .put .ensures .1))
+    (moves-look (c .before .before .before .before .before .before .before .before .before .before .before .before .args .kind) .moves (c .before .before .before .before .before .before .before .before .before .before .before .before .args .bytes .now) (c .before .before .before .before .before .before .before .before .before .before .loop .at) (sym (c .before .before .before .before .before .before .before .before .before .look .ensures .0) ∙ ap (λ (x : Step). lookedAt x (c .before .before .before .before .before .before .before .before .before .look .result .next)) (c .before .before .before .before .before .before .answer2 .given .1)))
+    (c .before .before .before .before .before .before .before .before .before .look .ensures .1)
 
 pub walk-spec : {M : Type 1} → statement M
 walk-spec =
@@ -102,13 +107,11 @@ walk-spec =
     same-length-3
     returns-3
     enum-known-answer-2
+    numbers-of-requires
+    put-requires
     full-requires
     same-length-4
     returns-4
-    cast-t24
-    cast-t25
-    mul-t21
-    slice-set-from-records
     add-k
     loop-less
     loop-again)

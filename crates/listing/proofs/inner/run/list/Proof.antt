@@ -14,7 +14,7 @@ records-requires : tie.Need-records-requires
 records-requires c κs =
     let r = c .before .before .before .before .before .before .before .before .before .before .before .before .before .refill in
     let p = c .before .before .before .before .before .before .before .before .before .before .before .before .before .before .before .before .before .before .before .before .before .before .pre in
-    (r .ensures, has-a-byte (r .last .0) (r .result .held) (sym (c .before .before .before .before .before .before .before .before .before .version .ensures) ∙ c .before .before .before .before .before .before .before .enum-told2 .given .1), p .0, p .1)
+    (r .ensures, has-a-byte (r .last .0) (r .result .held) (sym (c .before .before .before .before .before .before .before .before .before .version .ensures) ∙ c .before .before .before .before .before .before .before .enum-told .given .1), p .0, p .1)
 
 pub list-spec : {M : Type 1} → statement M
 list-spec =
@@ -25,22 +25,16 @@ list-spec =
     slice-aggregate-version
     (λ c κs. search needs)
     (λ c. search needs)
-    (λ c κs. search needs)
-    (λ c. search needs)
-    (λ c κs. search needs)
-    (λ c. search needs)
     records-requires
-    (λ c. search needs)
-    (λ c. search needs)
-    (λ c. search needs)
-    (λ c. search needs)
-    (λ c. search needs)
-    (λ c. search needs)
-    (λ c. search needs)
-    (λ c. search needs)
-    (λ c. search needs)
-    (λ c. search needs)
-    (λ c. search needs)
-    (λ c. search needs)
-    (λ c. search needs)
-    (λ c. search needs))
+    (λ c. c .before .before .before .before .before .before .before .before .before .before .before .before .before .buffer2 .given ∙ c .before .before .before .before .before .before .before .before .before .before .before .before .before .before .before .before .before .before .before .before .before .before .before .before .before .before .before .buffer .given)
+    (λ c. c .before .before .before .before .before .before .before .before .before .before .before .out .given)
+    (λ c. c .before .before .before .before .before .before .before .before .before .sequence-channels .given)
+    (λ c. c .before .before .before .before .before .before .before .sequence-numbers .given)
+    (λ c. c .before .before .before .before .before .partial-channels .given)
+    (λ c. c .before .before .before .partial-sequences .given)
+    (λ c. c .before .partial-reliables .given)
+    (λ c. c .before .before .before .before .before .before .before .before .before .before .before .before .before .before .records .ensures)
+    (λ c κs. c .before .before .before .before .before .before .before .before .before .before .before .before .before .before .before .pre .0)
+    (λ c. c .before .before .before .before .before .before .before .before .buffer .given)
+    (λ c. c .before .out2 .given)
+    (λ c. c .before .before .before .before .before .before .before .before .before .before .before .before .before .before .before .before .before .before .pre .1))

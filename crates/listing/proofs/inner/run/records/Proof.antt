@@ -43,9 +43,6 @@ with-room-requires c κs =
     let t = c .before .before .before .before .before .before .before .before .before .before .before .before .before .tell .ensures in
     (t .inside, omega (arith, c .before .before .before .before .before .before .before .before .before .before .before .before .before .before .before .before .before .before .before .before .before .before .before .before .before .before .before .before .loop .inv .room .left, t .size))
 
-loop-less : tie.Need-loop-less Inv-loop μ-loop
-loop-less c = omega arith
-
 loop-again : tie.Need-loop-again Inv-loop μ-loop
 loop-again c =
     let i = c .before .before .before .before .before .before .before .before .before .before .before .before .before .before .before .before .before .before .before .before .before .before .before .before .before .before .before .before .before .loop .inv in
@@ -71,63 +68,20 @@ refill-requires : tie.Need-refill-requires Inv-loop μ-loop
 refill-requires c κs = let i = c .before .before .before .before .before .loop .inv in (i .held, i .place)
 
 finish-requires : tie.Need-finish-requires Inv-loop μ-loop
-finish-requires c κs = c .before .before .before .before .before .before .before .before .before .before .before .loop .inv .room
-
-same-length : tie.Need-same-length Inv-loop μ-loop
-same-length c = c .before .before .before .before .before .before .before .buffer2 .given ∙ c .before .before .before .before .before .before .before .before .before .before .before .before .before .before .loop .inv .in-size
-
-same-length-2 : tie.Need-same-length-2 Inv-loop μ-loop
-same-length-2 c = c .before .out2 .given ∙ c .before .before .before .before .before .before .before .before .before .before .before .before .before .before .loop .inv .out-size
-
-same-length-3 : tie.Need-same-length-3 Inv-loop μ-loop
-same-length-3 c = c .before .before .before .before .before .before .before .before .before .before .before .before .before .before .loop .inv .sizes .sequence-channels
-
-same-length-4 : tie.Need-same-length-4 Inv-loop μ-loop
-same-length-4 c = c .before .before .before .before .before .before .before .before .before .before .before .before .before .before .loop .inv .sizes .sequence-numbers
-
-same-length-5 : tie.Need-same-length-5 Inv-loop μ-loop
-same-length-5 c = c .before .before .before .before .before .before .before .before .before .before .before .before .before .before .loop .inv .sizes .partial-channels
-
-same-length-6 : tie.Need-same-length-6 Inv-loop μ-loop
-same-length-6 c = c .before .before .before .before .before .before .before .before .before .before .before .before .before .before .loop .inv .sizes .partial-sequences
-
-same-length-7 : tie.Need-same-length-7 Inv-loop μ-loop
-same-length-7 c = c .before .before .before .before .before .before .before .before .before .before .before .before .before .before .loop .inv .sizes .partial-reliables
-
-loop-less-2 : tie.Need-loop-less-2 Inv-loop μ-loop
-loop-less-2 c = omega arith
+finish-requires c κs = c .before .before .before .before .before .before .before .before .before .loop .inv .room
 
 loop-again-2 : tie.Need-loop-again-2 Inv-loop μ-loop
 loop-again-2 c =
-    let i = c .before .before .before .before .before .before .before .before .before .before .loop .inv in
-    record { held = c .before .before .before .before .refill .ensures; place = omega arith; room = i .room; in-size = c .before .before .before .buffer2 .given ∙ i .in-size; out-size = i .out-size; sizes = i .sizes; state = i .state }
-
-same-length-8 : tie.Need-same-length-8 Inv-loop μ-loop
-same-length-8 c = c .before .loop .inv .in-size
-
-same-length-9 : tie.Need-same-length-9 Inv-loop μ-loop
-same-length-9 c = c .before .loop .inv .out-size
-
-same-length-10 : tie.Need-same-length-10 Inv-loop μ-loop
-same-length-10 c = c .before .loop .inv .sizes .sequence-channels
-
-same-length-11 : tie.Need-same-length-11 Inv-loop μ-loop
-same-length-11 c = c .before .loop .inv .sizes .sequence-numbers
-
-same-length-12 : tie.Need-same-length-12 Inv-loop μ-loop
-same-length-12 c = c .before .loop .inv .sizes .partial-channels
-
-same-length-13 : tie.Need-same-length-13 Inv-loop μ-loop
-same-length-13 c = c .before .loop .inv .sizes .partial-sequences
-
-same-length-14 : tie.Need-same-length-14 Inv-loop μ-loop
-same-length-14 c = c .before .loop .inv .sizes .partial-reliables
-
-returns : tie.Need-returns Inv-loop μ-loop
-returns c = c .before .before .before .before .before .before .before .before .before .before .before .before .before .before .loop .inv .state
-
-returns-2 : tie.Need-returns-2 Inv-loop μ-loop
-returns-2 c = c .before .loop .inv .state
+    let i = c .before .before .before .before .before .before .before .before .before .before .before .before .loop .inv in
+    record {
+      held = c .before .before .before .before .before .before .refill .ensures;
+      place = omega arith;
+      room = record { left = omega (arith, i .room .left, c .before .out2 .given) };
+      in-size = c .before .before .before .before .before .buffer2 .given ∙ i .in-size;
+      out-size = c .before .out2 .given ∙ i .out-size;
+      sizes = i .sizes;
+      state = i .state;
+    }
 
 pub records-spec : {M : Type 1} → statement M
 records-spec =
@@ -146,26 +100,18 @@ records-spec =
     part-tell-end
     tell-requires
     with-room-requires
-    loop-less
+    (λ c. omega arith)
     loop-again
     (λ c. search needs)
     refill-requires
     finish-requires
-    same-length
-    same-length-2
-    same-length-3
-    same-length-4
-    same-length-5
-    same-length-6
-    same-length-7
-    returns
-    loop-less-2
+    (λ c. omega (arith, c .before .before .finish .ensures))
     loop-again-2
-    same-length-8
-    same-length-9
-    same-length-10
-    same-length-11
-    same-length-12
-    same-length-13
-    same-length-14
-    returns-2)
+    (λ c. c .before .loop .inv .in-size)
+    (λ c. c .before .loop .inv .out-size)
+    (λ c. c .before .loop .inv .sizes .sequence-channels)
+    (λ c. c .before .loop .inv .sizes .sequence-numbers)
+    (λ c. c .before .loop .inv .sizes .partial-channels)
+    (λ c. c .before .loop .inv .sizes .partial-sequences)
+    (λ c. c .before .loop .inv .sizes .partial-reliables)
+    (λ c. c .before .loop .inv .state))

@@ -46,14 +46,14 @@ settle-spec =
     retire-sequence-requires
     retire-partial-requires
     (λ c κs. c .before .before .before .before .before .before .before .before .before .before .before .before .before .before .before .before .before .before .before .before .before .before .before .before .before .before .before .before .before .before .before .before .before .before .pre .1)
-    (λ c. search needs)
-    (λ c. search needs)
-    (λ c. search (needs, c .before .before .before .before .before .before .partial-channels2, c .before .before .before .before .before .before .before .before .before .before .before .before .before .before .before .before .before .before .before .before .before .before .before .before .before .partial-channels))
-    (λ c. search needs)
-    (λ c. search needs)
+    (λ c. c .before .before .before .before .before .before .before .before .before .before .before .before .before .before .sequence-channels .given)
+    (λ c. c .before .before .before .before .before .before .before .before .before .before .before .before .sequence-numbers .given)
+    (λ c. c .before .before .before .before .before .before .partial-channels2 .given ∙ c .before .before .before .before .before .before .before .before .before .before .before .before .before .before .before .before .before .before .before .before .before .before .before .before .before .partial-channels .given)
+    (λ c. c .before .before .before .before .partial-sequences2 .given ∙ c .before .before .before .before .before .before .before .before .before .before .before .before .before .before .before .before .before .before .before .before .before .before .before .partial-sequences .given)
+    (λ c. c .before .before .partial-reliables2 .given ∙ c .before .before .before .before .before .before .before .before .before .before .before .before .before .before .before .before .before .before .before .before .before .partial-reliables .given)
     returns
     (λ c κs. c .before .before .before .before .before .before .before .before .before .before .before .before .before .before .before .before .before .pre .1)
-    (λ c. search needs)
-    (λ c. search needs)
-    (λ c. search needs)
+    (λ c. c .before .before .before .before .before .before .before .before .partial-channels .given)
+    (λ c. c .before .before .before .before .before .before .partial-sequences .given)
+    (λ c. c .before .before .before .before .partial-reliables .given)
     returns-2)
