@@ -12,6 +12,12 @@ sys.path.insert(0, os.path.join(ROOT, "samples"))
 sys.dont_write_bytecode = True
 from logs import Packet, any_log, log, samples  # noqa: E402
 
+# What a channel's lines say is in the test logs or in the first so many of seed 1, which every run tells: so that it is met hangs on
+# no seed.
+ALWAYS = 25
+CAUSES = ("continuation without initial", "its channel closed", "mismatched continuation", "non-byte-aligned non-final fragment",
+          "overlapping initial", "too many channels", "too many messages held")
+KINDS = {"message", "message, joined", "unfinished"} | {f"discarded: {cause}" for cause in CAUSES}
 CHANNELS = ([3], [0, 1], [0, 1, 2, 3, 127, 128, 16384, 2**32 - 1], list(range(200)))
 
 
@@ -80,22 +86,34 @@ def main():
     words.add_argument("--seed", type=int, default=1)
     words.add_argument("--logs", type=int, default=300)
     a = words.parse_args()
-    kept = list(samples().values())
     seen = collections.Counter()
-    for number in range(a.logs + len(kept)):
-        data = one(random.Random(f"{a.seed} {number}"), number) if number < a.logs else kept[number - a.logs]
+
+    def compare(name, data):
         ours, rust = told([a.exec, a.ours], data), told([a.exec, a.rust], data)
         if ours != rust or ours[0] not in (0, 1) or not ours[1]:
             path = os.path.join(ROOT, "target/oracle/differs.log")
             with open(path, "wb") as f:
                 f.write(data)
-            sys.exit(f"log {number} of seed {a.seed} is told in two ways, or not to its end; it is in {path}")
+            sys.exit(f"{name} is told in two ways, or not to its end; it is in {path}")
         for line in ours[1].decode().splitlines():
             if line.startswith("  "):
                 first, last = line.split()[1].split("..")
                 kind = line.split()[0] + (", joined" if first != last and "message" in line else "")
                 seen[kind + (":" + line.split(":")[1] if ":" in line else "")] += 1
-    print(f"chain: {a.logs + len(kept)} logs alike; " + ", ".join(f"{k} {n}" for k, n in sorted(seen.items())))
+
+    def drawn(seed, number):
+        compare(f"log {number} of seed {seed}", one(random.Random(f"{seed} {number}"), number))
+
+    for name, data in samples().items():
+        compare(name, data)
+    for number in range(ALWAYS):
+        drawn(1, number)
+    if seen.keys() != KINDS:
+        sys.exit(f"lines of other kinds than {sorted(KINDS)}: {sorted(seen)}")
+    for number in range(a.logs):
+        drawn(a.seed, number)
+    logs = len(samples()) + ALWAYS + a.logs
+    print(f"chain: {logs} logs alike; " + ", ".join(f"{k} {n}" for k, n in sorted(seen.items())))
 
 
 main()

@@ -18,6 +18,8 @@ pub trait Shown: Sized {
 pub trait Case: Clone + Shown<Answer: Default + PartialEq> {
     /// The ways to answer that aren't refusals.
     const CASES: &[&str];
+    /// Each call with all the ways in which it answers, as the summary names them.
+    const MET: &[(&str, &str)];
 
     /// What the Rust answers or, outside its domain, document 01.
     fn expected(&self, answer: &mut Self::Answer);
@@ -54,39 +56,26 @@ pub struct Comparing<C: Case> {
     ours: C::Answer,
     room: Vec<u8>,
     panicked: bool,
-    /// One input in `share` is compared, and `turn` counts to the next.
-    share: u64,
-    turn: u64,
+    /// Nothing is printed but what differs.
+    quiet: bool,
     /// For each call, how often it was compared with each outcome.
     counts: Vec<[u64; OUTCOMES]>,
     stage: (&'static str, u64, Instant),
 }
 
 impl<C: Case> Comparing<C> {
-    pub fn new(seed: u64, share: u64) -> Self {
+    pub fn new() -> Self {
         Self {
             expected: Default::default(),
             ours: Default::default(),
             room: Vec::new(),
             panicked: false,
-            share,
-            turn: seed % share,
+            quiet: false,
             counts: Vec::new(),
             stage: ("", 0, Instant::now()),
         }
     }
 
-    #[inline]
-    pub fn check(&mut self, case: &C) {
-        if self.turn > 0 {
-            self.turn -= 1;
-            return;
-        }
-        self.turn = self.share - 1;
-        self.compared(case);
-    }
-
-    /// Compares in any case, and gives the answer.
     pub fn compared(&mut self, case: &C) -> &C::Answer {
         if self.differs(case) {
             self.report(case);
@@ -129,18 +118,34 @@ impl<C: Case> Comparing<C> {
         std::process::exit(1);
     }
 
+    pub fn say(&self, line: &str) {
+        if !self.quiet {
+            println!("  {line}");
+        }
+    }
+
     /// Names the inputs that follow; prints how many the stage before had.
     pub fn stage(&mut self, name: &'static str) {
         let total = self.total();
         let (before, from, started) = self.stage;
         if !before.is_empty() {
-            println!("  {before}: {} inputs, {:.1} s", total - from, started.elapsed().as_secs_f64());
+            self.say(&format!("{before}: {} inputs, {:.1} s", total - from, started.elapsed().as_secs_f64()));
         }
         self.stage = (name, total, Instant::now());
     }
 
+    pub fn be_quiet(&mut self) {
+        self.quiet = true;
+    }
+
     pub fn total(&self) -> u64 {
         self.counts.as_flattened().iter().sum()
+    }
+
+    /// A call's outcomes that were met, each with how often.
+    fn met(counts: &[u64; OUTCOMES]) -> impl Iterator<Item = (String, u64)> {
+        let met = counts.iter().enumerate().filter(|(_, count)| **count > 0);
+        met.map(|(outcome, &count)| (C::outcome_name(outcome), count))
     }
 
     pub fn summary(&mut self) {
@@ -148,12 +153,22 @@ impl<C: Case> Comparing<C> {
         for (call, counts) in self.counts.iter().enumerate() {
             let total: u64 = counts.iter().sum();
             if total > 0 {
-                let met = counts.iter().enumerate().filter(|(_, count)| **count > 0);
-                let outcomes: Vec<_> = met.map(|(outcome, count)| format!("{} {count}", C::outcome_name(outcome))).collect();
+                let outcomes: Vec<_> = Self::met(counts).map(|(name, count)| format!("{name} {count}")).collect();
                 println!("{:<32}{total:>12}: {}", C::name(call), outcomes.join(", "));
             }
         }
         println!("{:<32}{:>12}", "total", self.total());
+    }
+
+    /// That each call was met with every outcome that it has, and with no other.
+    pub fn assert_met(&self) {
+        let calls = self.counts.iter().enumerate().filter(|(_, counts)| counts.iter().sum::<u64>() > 0);
+        let met: Vec<_> = calls.map(|(call, counts)| (C::name(call), Vec::from_iter(Self::met(counts).map(|(name, _)| name)).join(", "))).collect();
+        for &(name, outcomes) in C::MET {
+            let found = met.iter().find(|(call, _)| *call == name).map_or("nothing", |(_, found)| found);
+            assert!(found == outcomes, "{name} was met with {found}, and not with {outcomes}");
+        }
+        assert!(met.len() == C::MET.len(), "a call is met that the list of outcomes lacks");
     }
 }
 

@@ -22,6 +22,8 @@ mod lent;
 mod line;
 mod packet;
 mod random;
+#[cfg(any(ours, bunch))]
+mod share;
 mod shrink;
 mod text;
 mod window;
@@ -56,30 +58,34 @@ fn given() -> Option<Given> {
     Some(given)
 }
 
+/// A part's inputs first by a seed and a share of their own, always the same, in which every answer that a call can give must be met:
+/// so this hangs on no run's seed or share. Then the run's.
+#[cfg(any(ours, bunch))]
+macro_rules! part {
+    ($part:ident, $given:expr) => {
+        if $given.part.as_deref().is_none_or(|one| one == stringify!($part)) {
+            $part::inputs::Inputs::new(1, ALWAYS, false).assert_met();
+            $part::inputs::Inputs::new($given.seed, $given.share, $given.long).run();
+        }
+    };
+}
+
+/// One input in so many.
+#[cfg(any(ours, bunch))]
+const ALWAYS: u64 = 100;
+
 #[cfg(any(ours, bunch))]
 fn run(given: &Given) {
     compare::watch_for_crashes();
-    let &Given { long, seed, share, .. } = given;
-    let wants = |part: &str| given.part.as_deref().is_none_or(|one| one == part);
     #[cfg(ours)]
     {
-        if wants("bitio") {
-            bitio::inputs::Inputs::new(seed, share, long).run();
-        }
-        if wants("field") {
-            field::inputs::Inputs::new(seed, share, long).run();
-        }
-        if wants("packet") {
-            packet::inputs::Inputs::new(seed, share, long).run();
-        }
-        if wants("writer") {
-            writer::inputs::Inputs::new(seed, share, long).run();
-        }
+        part!(bitio, given);
+        part!(field, given);
+        part!(packet, given);
+        part!(writer, given);
     }
     #[cfg(bunch)]
-    if wants("bunch") {
-        bunch::inputs::Inputs::new(seed, share, long).run();
-    }
+    part!(bunch, given);
 }
 
 #[cfg(not(any(ours, bunch)))]

@@ -41,9 +41,15 @@ pub fn damage(what: Option<&str>) -> String {
     what.map_or(String::new(), |what| format!("; DAMAGED: {what}"))
 }
 
-/// How often each named thing was met, and with `all` that none was missed.
-pub fn met(what: &str, names: &[&str], counts: &[u64], all: bool) {
+/// How often each named thing was met.
+pub fn met(what: &str, names: &[&str], counts: &[u64]) {
     let list: Vec<_> = names.iter().zip(counts).map(|(name, count)| format!("{name} {count}")).collect();
     println!("{what} with: {}", list.join(", "));
-    assert!(!all || counts.iter().all(|&count| count > 0), "a case didn't occur");
+}
+
+/// That none was missed.
+pub fn assert_met(what: &str, names: &[&str], counts: &[u64]) {
+    for (name, count) in names.iter().zip(counts) {
+        assert!(*count > 0, "{what} with {name}: none was met");
+    }
 }

@@ -10,8 +10,11 @@ import sys
 ROOT = os.path.dirname(os.path.dirname(os.path.dirname(os.path.abspath(__file__))))
 sys.path.insert(0, os.path.join(ROOT, "samples"))
 sys.dont_write_bytecode = True
-from logs import Packet, any_log, any_packet, log, longest  # noqa: E402
+from logs import Packet, any_log, any_packet, log, longest, samples  # noqa: E402
 
+# Each kind of line is in the test logs or in the first so many of seed 1, which every run lists: so that it is met hangs on no seed.
+ALWAYS = 10
+KINDS = {"B", "B E", "B K", "B L", "P", "P malformed", "V", "X"}
 CHANNELS = ([3], [0, 1], [0, 1, 2, 3, 127, 128, 16384, 2**32 - 1], list(range(200)), list(range(6000)))
 
 
@@ -45,9 +48,10 @@ def full(r):
 
 
 def one(r, number):
-    if number % 500 == 250:
+    # Early, so that any run has them.
+    if number % 500 == 25:
         return log([(1, longest(r.choice((0, 1, 16383)))), (2, r.randbytes(65535)), (3, any_packet(r, [9]))])
-    if number % 500 == 125:
+    if number % 500 == 50:
         return full(r)
     if number % 50 == 7:
         return bytes([r.choice((0, 1, 1, 2, 255))]) + r.randbytes(r.randrange(400))
@@ -68,14 +72,14 @@ def main():
     words.add_argument("--logs", type=int, default=2000)
     a = words.parse_args()
     seen = collections.Counter()
-    for number in range(a.logs):
-        data = one(random.Random(f"{a.seed} {number}"), number)
+
+    def compare(name, data):
         ours, rust = listing([a.ours, "list"], data), listing([a.exec, a.rust], data)
         if ours != rust:
             path = os.path.join(ROOT, "target/oracle/differs.log")
             with open(path, "wb") as f:
                 f.write(data)
-            sys.exit(f"log {number} of seed {a.seed} is listed in two ways; it is in {path}")
+            sys.exit(f"{name} is listed in two ways; it is in {path}")
         for line in rust.splitlines():
             words = line.split()
             kind = words[0].decode()
@@ -84,7 +88,20 @@ def main():
             elif kind == "P" and words[3] == b"1":
                 kind = "P malformed"
             seen[kind] += 1
-    print(f"listings: {a.logs} logs alike; lines: " + ", ".join(f"{k} {n}" for k, n in sorted(seen.items())))
+
+    def drawn(seed, number):
+        compare(f"log {number} of seed {seed}", one(random.Random(f"{seed} {number}"), number))
+
+    for name, data in samples().items():
+        compare(name, data)
+    for number in range(ALWAYS):
+        drawn(1, number)
+    if seen.keys() != KINDS:
+        sys.exit(f"lines of other kinds than {sorted(KINDS)}: {sorted(seen)}")
+    for number in range(a.logs):
+        drawn(a.seed, number)
+    logs = len(samples()) + ALWAYS + a.logs
+    print(f"listings: {logs} logs alike; lines: " + ", ".join(f"{k} {n}" for k, n in sorted(seen.items())))
 
 
 main()

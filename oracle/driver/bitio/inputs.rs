@@ -9,11 +9,13 @@ use super::Call::*;
 use super::{CALLS, Call, Case};
 use crate::compare::Comparing;
 use crate::random::Random;
+use crate::share::Share;
 
 pub struct Inputs {
     comparing: Comparing<Case>,
     random: Random,
     case: Case,
+    share: Share,
     long: bool,
 }
 
@@ -35,10 +37,11 @@ fn around_a_multiple(random: &mut Random) -> u64 {
 
 impl Inputs {
     pub fn new(seed: u64, share: u64, long: bool) -> Self {
-        Self { comparing: Comparing::new(seed, share), random: Random::new(seed), case: Case::new(New, &[], [0; 3], 0), long }
+        let case = Case::new(New, &[], [0; 3], 0);
+        Self { comparing: Comparing::new(), random: Random::new(seed), case, share: Share::new(share, seed), long }
     }
 
-    pub fn run(mut self) {
+    fn stages(&mut self) {
         self.short_data();
         self.two_bytes();
         self.every_window();
@@ -49,13 +52,23 @@ impl Inputs {
         self.damaged_windows();
         self.random_data();
         self.too_long();
+    }
+
+    pub fn run(mut self) {
+        self.stages();
         self.comparing.summary();
+    }
+
+    pub fn assert_met(mut self) {
+        self.comparing.be_quiet();
+        self.stages();
+        self.comparing.assert_met();
     }
 
     fn check(&mut self, call: Call, argument: u64) {
         self.case.call = call;
         self.case.argument = argument;
-        self.comparing.check(&self.case);
+        self.comparing.compared(&self.case);
     }
 
     fn check_target(&mut self, count: u64, m: usize) {

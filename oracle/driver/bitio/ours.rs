@@ -88,6 +88,29 @@ fn copy(case: &Case, data: &[u8], answer: &mut Answer, out: &mut Out) {
 
 impl compare::Case for Case {
     const CASES: &[&str] = &["value"];
+    const MET: &[(&str, &str)] = &[
+        ("new", "refusal 7, value"),
+        ("with_bit_len", "refusal 5, refusal 7, value"),
+        ("position", "value"),
+        ("len_bits", "value"),
+        ("bits_remaining", "refusal 5, value"),
+        ("at_end", "value"),
+        ("read_bit", "refusal 1, refusal 5, refusal 7, value"),
+        ("read_bits", "refusal 1, refusal 5, refusal 6, refusal 7, value"),
+        ("read_u8", "refusal 1, refusal 5, refusal 7, value"),
+        ("read_u16", "refusal 1, refusal 5, refusal 7, value"),
+        ("read_u32", "refusal 1, refusal 5, refusal 7, value"),
+        ("read_i32", "refusal 1, refusal 5, refusal 7, value"),
+        ("read_u64", "refusal 1, refusal 5, refusal 7, value"),
+        ("read_f32", "refusal 1, refusal 5, refusal 7, value"),
+        ("read_f64", "refusal 1, refusal 5, refusal 7, value"),
+        ("read_int_packed", "refusal 1, refusal 2, refusal 3, refusal 5, refusal 7, value"),
+        ("read_serialized_int", "refusal 1, refusal 4, refusal 5, refusal 7, value"),
+        ("copy_bits_to", "refusal 1, refusal 5, refusal 7, value"),
+        ("sub_reader", "refusal 1, refusal 5, refusal 7, value"),
+        ("skip_bits", "refusal 1, refusal 5, refusal 7, value"),
+        ("skip_remaining", "refusal 5, refusal 7, value"),
+    ];
 
     fn expected(&self, answer: &mut Answer) {
         expected(self, answer);

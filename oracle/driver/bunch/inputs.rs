@@ -10,26 +10,28 @@ use super::{Answer, Call, Case, streams};
 use crate::compare::Comparing;
 use crate::packet::streams::{ENDS, channels};
 use crate::random::Random;
+use crate::share::Share;
 use std::collections::BTreeSet;
 
 pub struct Inputs {
     comparing: Comparing<Case>,
     random: Random,
     met: Met,
-    /// One script in so many is made.
-    share: u64,
+    share: Share,
     long: bool,
     /// Of the changed states, how many were sound and how many weren't.
     changed: [u64; 2],
+    /// Of the shuffles under limits that are too small, how many gave something else.
+    narrow: [u64; 2],
 }
 
 impl Inputs {
     pub fn new(seed: u64, share: u64, long: bool) -> Self {
-        let comparing = Comparing::new(seed, 1);
-        Self { comparing, random: Random::new(seed), met: Met::default(), share, long, changed: [0; 2] }
+        let (comparing, share) = (Comparing::new(), Share::new(share, seed));
+        Self { comparing, random: Random::new(seed), met: Met::default(), share, long, changed: [0; 2], narrow: [0; 2] }
     }
 
-    pub fn run(mut self) {
+    fn stages(&mut self) {
         self.desk_checks();
         self.openings();
         self.scripts();
@@ -37,16 +39,29 @@ impl Inputs {
         self.full_tables();
         self.changed_states();
         self.several_causes();
-        self.largest();
         self.shuffles();
+    }
+
+    pub fn run(mut self) {
+        self.stages();
+        self.largest();
         self.comparing.summary();
-        self.met.print(self.share == 1);
+        self.met.print();
         let [sound, unsound] = self.changed;
         println!("changed states: {sound} still sound, {unsound} not");
     }
 
+    pub fn assert_met(mut self) {
+        self.comparing.be_quiet();
+        self.stages();
+        self.comparing.assert_met();
+        self.met.assert();
+        assert!(self.changed.iter().all(|&count| count > 0), "changed states, some sound and some not");
+        assert!(self.narrow.iter().all(|&count| count > 0), "the limits of demand 3 are needed");
+    }
+
     fn rounds(&self, short: u64, long: u64) -> u64 {
-        (if self.long { long } else { short }).div_ceil(self.share)
+        self.share.of(if self.long { long } else { short })
     }
 
     fn check(&mut self, case: &Case) -> &Answer {
@@ -65,7 +80,7 @@ impl Inputs {
                 case.go_on(&answer);
                 if index == 1 {
                     check.hold(&answer.words);
-                    println!("  desk check: {}", check.name);
+                    self.comparing.say(&format!("desk check: {}", check.name));
                 }
             }
         }
@@ -249,6 +264,6 @@ impl Inputs {
         for _ in 0..rounds {
             shuffles.round();
         }
-        shuffles.print();
+        self.narrow = shuffles.print();
     }
 }

@@ -52,7 +52,11 @@ impl Met {
         }
     }
 
-    pub fn print(&self, all: bool) {
-        text::met("calls", &NAMES, &self.0, all);
+    pub fn print(&self) {
+        text::met("calls", &NAMES, &self.0);
+    }
+
+    pub fn assert(&self) {
+        text::assert_met("calls", &NAMES, &self.0);
     }
 }

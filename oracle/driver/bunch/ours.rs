@@ -63,6 +63,14 @@ impl compare::Case for Case {
         "opened", "joined", "finished", "an erring final", "active limit", "missing initial", "mismatched", "not aligned",
         "buffered limit", "nothing", "a message", "drained",
     ];
+    const MET: &[(&str, &str)] = &[
+        ("with_limits", "refusal 9, opened"),
+        ("add_fragment", "refusal 10, refusal 11, refusal 12, refusal 13, joined, finished, an erring final, active limit, \
+            missing initial, mismatched, not aligned, buffered limit"),
+        ("take_completed", "refusal 10, refusal 13, nothing, a message"),
+        ("retire_channel", "refusal 10, refusal 13, nothing, a message"),
+        ("drain_unfinished", "refusal 10, refusal 13, refusal 14, drained"),
+    ];
 
     fn expected(&self, answer: &mut Answer) {
         expected(self, answer);

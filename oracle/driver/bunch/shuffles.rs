@@ -235,10 +235,11 @@ impl<'a> Shuffles<'a> {
         self.counts.lists += count as u64;
     }
 
-    pub fn print(self) {
+    /// And of the orders under limits that are too small, how many gave something else.
+    pub fn print(self) -> [u64; 2] {
         let Counts { lists, orders, chains, narrow: [active, buffered] } = self.counts;
-        println!("  demand 3: {lists} lists in {orders} other orders, {chains} chains taken; every order gave the same");
-        println!("  with limits too small, orders that gave something else: active {active}, buffered bits {buffered}");
-        assert!(active > 0 && buffered > 0, "the limits of demand 3 are needed");
+        self.comparing.say(&format!("demand 3: {lists} lists in {orders} other orders, {chains} chains taken; every order gave the same"));
+        self.comparing.say(&format!("with limits too small, orders that gave something else: active {active}, buffered bits {buffered}"));
+        [active, buffered]
     }
 }

@@ -6,6 +6,7 @@ use super::{Answer, Call, Case, streams};
 use crate::compare::Comparing;
 use crate::lent::LONGEST_COPIED;
 use crate::random::Random;
+use crate::share::Share;
 use crate::window;
 
 const COUNTS: [u32; 12] = [1, 2, 3, 4, 5, 8, 9, 255, 256, 1 << 31, (1 << 31) + 1, u32::MAX];
@@ -14,29 +15,40 @@ pub struct Inputs {
     comparing: Comparing<Case>,
     random: Random,
     case: Case,
+    share: Share,
     long: bool,
 }
 
 impl Inputs {
     pub fn new(seed: u64, share: u64, long: bool) -> Self {
         let case = Case::new(RepLayout, &[], [0; 3], 0, 0);
-        Self { comparing: Comparing::new(seed, share), random: Random::new(seed), case, long }
+        Self { comparing: Comparing::new(), random: Random::new(seed), case, share: Share::new(share, seed), long }
     }
 
-    pub fn run(mut self) {
+    fn stages(&mut self) {
         self.every_window();
         self.at_offsets();
         self.drawn();
         self.damaged_windows();
         self.too_long();
+    }
+
+    pub fn run(mut self) {
+        self.stages();
         self.comparing.summary();
+    }
+
+    pub fn assert_met(mut self) {
+        self.comparing.be_quiet();
+        self.stages();
+        self.comparing.assert_met();
     }
 
     fn check(&mut self, call: Call, function_count: u32, places: usize) {
         self.case.call = call;
         self.case.function_count = function_count;
         self.case.places = places;
-        self.comparing.check(&self.case);
+        self.comparing.compared(&self.case);
     }
 
     /// Every call, the class net cache's with each of some function counts.
@@ -53,7 +65,7 @@ impl Inputs {
     fn every_window(&mut self) {
         self.comparing.stage("all windows up to 19 bits");
         for bits in 0..=19usize {
-            for word in 0..1u32 << bits {
+            for word in self.share.among(0..1u32 << bits) {
                 self.case.data.clear();
                 self.case.data.extend_from_slice(&word.to_le_bytes()[..bits.div_ceil(8)]);
                 self.case.window = [0, 0, bits as u64];
@@ -71,7 +83,7 @@ impl Inputs {
         for start in [0, 1, 3, 7, 8, 13] {
             for position in [0, 1, 5, 9] {
                 for bits in 0..=most {
-                    for word in 0..1u64 << bits {
+                    for word in self.share.among(0..1u64 << bits) {
                         let before = start + position;
                         let kept = ((1 << bits) - 1) << before;
                         let around = self.random.next() & !kept;
@@ -101,7 +113,7 @@ impl Inputs {
         self.comparing.stage("streams of records");
         let mut answer = Answer::default();
         let rounds = if self.long { 20_000_000 } else { 1_000_000 };
-        for round in 0..rounds {
+        for round in 0..self.share.of(rounds) as usize {
             let call = [RepLayout, RepLayoutContentBlock, ClassNetCache][round % 3];
             let count = if call == ClassNetCache { self.function_count() } else { 0 };
             let records = if round % 97 == 0 { 60 } else { self.random.below(8) };
@@ -137,7 +149,8 @@ impl Inputs {
                 }
             }
         }
-        for round in 0..if self.long { 4_000_000 } else { 400_000 } {
+        let rounds = if self.long { 4_000_000 } else { 400_000 };
+        for round in 0..self.share.of(rounds) as usize {
             let n = round % 40;
             self.refill(n);
             self.case.window = window::drawn(&mut self.random, 8 * n as u64);

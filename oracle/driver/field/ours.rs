@@ -65,6 +65,11 @@ fn listed(case: &Case, data: &[u8], words: &WalkOut, places: &[Record]) -> bool 
 
 impl compare::Case for Case {
     const CASES: &[&str] = &["ended", "tail", "abandoned"];
+    const MET: &[(&str, &str)] = &[
+        ("parse_rep_layout", "refusal 1, refusal 2, refusal 3, refusal 5, refusal 7, refusal 14, ended, tail, abandoned"),
+        ("parse_rep_layout_content_block", "refusal 1, refusal 2, refusal 3, refusal 5, refusal 7, refusal 14, ended, tail, abandoned"),
+        ("parse_class_net_cache", "refusal 1, refusal 2, refusal 3, refusal 5, refusal 7, refusal 14, refusal 15, ended, abandoned"),
+    ];
 
     fn expected(&self, answer: &mut Answer) {
         expected(self, answer);

@@ -6,6 +6,7 @@ use super::met::Met;
 use super::{Answer, BUNCH, Case, streams, tables};
 use crate::compare::Comparing;
 use crate::random::Random;
+use crate::share::Share;
 use std::collections::BTreeSet;
 use vrf_net::packet::RawPacketReader;
 
@@ -18,17 +19,17 @@ pub struct Inputs {
     comparing: Comparing<Case>,
     random: Random,
     met: Met,
-    /// One log in so many is read.
-    share: u64,
+    share: Share,
     long: bool,
 }
 
 impl Inputs {
     pub fn new(seed: u64, share: u64, long: bool) -> Self {
-        Self { comparing: Comparing::new(seed, 1), random: Random::new(seed), met: Met::default(), share, long }
+        let (comparing, share) = (Comparing::new(), Share::new(share, seed));
+        Self { comparing, random: Random::new(seed), met: Met::default(), share, long }
     }
 
-    pub fn run(mut self) {
+    fn stages(&mut self) {
         self.openings();
         self.every_packet();
         self.logs();
@@ -37,12 +38,23 @@ impl Inputs {
         self.unsound();
         self.longest();
         self.dense_logs();
+    }
+
+    pub fn run(mut self) {
+        self.stages();
         self.comparing.summary();
         self.met.print();
     }
 
+    pub fn assert_met(mut self) {
+        self.comparing.be_quiet();
+        self.stages();
+        self.comparing.assert_met();
+        self.met.assert();
+    }
+
     fn rounds(&self, short: u64, long: u64) -> u64 {
-        (if self.long { long } else { short }).div_ceil(self.share)
+        self.share.of(if self.long { long } else { short })
     }
 
     fn check(&mut self, case: &Case) -> &Answer {
@@ -120,7 +132,7 @@ impl Inputs {
         let states: Vec<_> =
             [0, 1, 2, 3, 16].into_iter().map(|limit| self.filled(limit, limit + 1, &[0, 1, 2, 3, 63, 64, 127])).collect();
         for n in 0..=2 {
-            for word in (0..1u32 << (8 * n)).step_by(self.share as usize) {
+            for word in self.share.among(0..1u32 << (8 * n)) {
                 for state in &states {
                     let packet = word.to_le_bytes()[..n].to_vec();
                     let mut case = Case { packet, id: word as i32 - 9, ..state.clone() };
@@ -269,7 +281,7 @@ impl Inputs {
         self.comparing.stage("the longest packet, and one byte more");
         let channels = streams::channels(&mut self.random, 5);
         for n in [65_534, 65_535, 65_536, 65_537, 70_000] {
-            for round in 0..self.rounds(6, 20) {
+            for round in 0..if self.long { 20 } else { 6 } {
                 let mut case = self.filled(16, 16, &channels);
                 case.packet = streams::packet(&mut self.random, &channels, 30);
                 case.packet.resize(n, 0);

@@ -38,6 +38,10 @@ impl Met {
     }
 
     pub fn print(&self) {
-        text::met("bunches", &NAMES, &self.0, true);
+        text::met("bunches", &NAMES, &self.0);
+    }
+
+    pub fn assert(&self) {
+        text::assert_met("bunches", &NAMES, &self.0);
     }
 }

@@ -33,6 +33,10 @@ fn read(case: &Case, packet: &[u8], columns: &mut [Vec<u32>; 5], words: &mut Wor
 
 impl compare::Case for Case {
     const CASES: &[&str] = &["bunch or opened", "end", "malformed"];
+    const MET: &[(&str, &str)] = &[
+        ("with_max_channels", "refusal 9, bunch or opened"),
+        ("read_bunch", "refusal 5, refusal 8, refusal 10, bunch or opened, end, malformed"),
+    ];
 
     fn expected(&self, answer: &mut Answer) {
         expected(self, answer);

@@ -6,6 +6,7 @@ use super::streams::{self, CHANNELS, bunch_of};
 use super::*;
 use crate::compare::Comparing;
 use crate::random::Random;
+use crate::share::Share;
 
 const COUNTS: [u64; 20] = [
     127, 128, 129, 255, 256, 257, 1_023, 1_024, 1_025, 4_095, 8_191, 16_319, 16_320, 16_382, 16_383, 16_384, 16_385, 1 << 32,
@@ -19,7 +20,7 @@ pub struct Inputs {
     comparing: Comparing<Case>,
     rows: Comparing<Row>,
     random: Random,
-    share: u64,
+    share: Share,
     long: bool,
     /// How many bunches with each flag were read back, and how many in all.
     flags: [u64; FLAG_NAMES.len()],
@@ -28,11 +29,11 @@ pub struct Inputs {
 
 impl Inputs {
     pub fn new(seed: u64, share: u64, long: bool) -> Self {
-        let (comparing, rows) = (Comparing::new(seed, share), Comparing::new(seed, 1));
+        let (comparing, rows, share) = (Comparing::new(), Comparing::new(), Share::new(share, seed));
         Self { comparing, rows, random: Random::new(seed), share, long, flags: Default::default(), read_back: 0 }
     }
 
-    pub fn run(mut self) {
+    fn calls(&mut self) {
         self.every_header();
         self.every_count();
         self.room_edges();
@@ -40,20 +41,38 @@ impl Inputs {
         self.refusals();
         self.random_bunches();
         self.closings();
-        self.comparing.summary();
+    }
+
+    fn packets(&mut self) {
         self.rows_in("rows into small packets", self.rounds(100_000, 1_000_000), 160);
         self.rows_in("rows into larger packets", self.rounds(3_000, 30_000), 6_000);
         self.rows_in("rows into the longest packets", self.rounds(200, 2_000), 0);
+    }
+
+    pub fn run(mut self) {
+        self.calls();
+        self.comparing.summary();
+        self.packets();
         self.rows.summary();
         self.print_read_back();
     }
 
+    pub fn assert_met(mut self) {
+        self.comparing.be_quiet();
+        self.rows.be_quiet();
+        self.calls();
+        self.comparing.assert_met();
+        self.packets();
+        self.rows.assert_met();
+        assert!(self.flags.iter().all(|&count| count > 0), "a flag didn't occur");
+    }
+
     fn rounds(&self, short: u64, long: u64) -> u64 {
-        if self.long { long } else { short }
+        self.share.of(if self.long { long } else { short })
     }
 
     fn check(&mut self, bunch: &Bunch, packet: &[u8], at: u64) {
-        self.comparing.check(&Case { bunch: Some(bunch.clone()), packet: packet.to_vec(), at });
+        self.comparing.compared(&Case { bunch: Some(bunch.clone()), packet: packet.to_vec(), at });
     }
 
     fn every_header(&mut self) {
@@ -73,7 +92,7 @@ impl Inputs {
     /// Payloads that are as long as their bits need, longer, a byte short, and empty.
     fn every_count(&mut self) {
         self.comparing.stage("every count of payload bits");
-        for _ in 0..self.rounds(8, 80) {
+        for _ in 0..if self.long { 80 } else { 8 } {
             for count in (0..127).chain(COUNTS) {
                 for at in 0..8 {
                     let header = streams::header(&mut self.random);
@@ -108,7 +127,7 @@ impl Inputs {
         for size in LONGEST {
             let packet = streams::room(&mut self.random, size);
             let room = 8 * size.min(65_535) as u64;
-            for round in 0..self.rounds(150, 1_000) {
+            for round in 0..if self.long { 1_000 } else { 150 } {
                 let bunch = streams::bunch(&mut self.random, if round % 3 == 0 { 16_383 } else { 80 });
                 let fits = room - header_bits(bunch.header, bunch.count).count - bunch.count;
                 let end = 8 * size as u64;
@@ -170,7 +189,7 @@ impl Inputs {
             let (end, most) = (8 * size as u64, 8 * 65_535);
             let all = if size < 200 { 0..end } else { most - 20..end.min(most + 20) };
             for at in all.chain([end, end + 1, end + 9, 1 << 32, u64::MAX]) {
-                self.comparing.check(&Case { bunch: None, packet: packet.clone(), at });
+                self.comparing.compared(&Case { bunch: None, packet: packet.clone(), at });
             }
         }
     }
@@ -178,7 +197,7 @@ impl Inputs {
     /// With 0 for the size the lent packet is among the longest.
     fn rows_in(&mut self, stage: &'static str, rounds: u64, size: u64) {
         self.rows.stage(stage);
-        for _ in 0..rounds.div_ceil(self.share) {
+        for _ in 0..rounds {
             let bytes = if size == 0 { self.random.one_of(&LONGEST) } else { self.random.upto(size) as usize };
             let mut room = 8 * bytes as u64 + 1;
             let most = if size == 160 { 200 } else { 16_383 };
@@ -203,6 +222,5 @@ impl Inputs {
     fn print_read_back(&self) {
         let list: Vec<_> = FLAG_NAMES.iter().zip(self.flags).map(|(name, count)| format!("{name} {count}")).collect();
         println!("bunches read back {}: {}", self.read_back, list.join(", "));
-        assert!(self.flags.iter().all(|&count| count > 0), "a flag didn't occur");
     }
 }

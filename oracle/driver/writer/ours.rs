@@ -75,6 +75,10 @@ fn with_packet<T>(
 
 impl compare::Case for Case {
     const CASES: &[&str] = &["written"];
+    const MET: &[(&str, &str)] = &[
+        ("write_bunch", "refusal 5, refusal 11, refusal 12, refusal 16, refusal 17, written"),
+        ("close_packet", "refusal 5, refusal 17, written"),
+    ];
 
     fn expected(&self, answer: &mut Answer) {
         expected(self, answer);
@@ -102,6 +106,8 @@ impl compare::Case for Case {
 
 impl compare::Case for Row {
     const CASES: &[&str] = &["closed", "closed without its last bunch", "no room for an end mark"];
+    const MET: &[(&str, &str)] =
+        &[("packets written and read back", "closed, closed without its last bunch, no room for an end mark")];
 
     fn expected(&self, answer: &mut rows::Answer) {
         answer.damage = None;

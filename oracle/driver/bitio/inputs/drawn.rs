@@ -28,7 +28,7 @@ impl Inputs {
     pub(super) fn random_data(&mut self) {
         self.comparing.stage("random data");
         let rounds = if self.long { 32_000_000 } else { 1_200_000 };
-        for round in 0..rounds {
+        for round in 0..self.share.of(rounds) {
             let n = if round % 16 == 15 { 25 + self.random.below(300) } else { round % 25 };
             self.case.data.resize(n as usize, 0);
             let mut data = std::mem::take(&mut self.case.data);

@@ -22,7 +22,7 @@ impl Inputs {
 
     fn every_window_of(&mut self, data: &[u8], bits: u64, most: u64) {
         self.case.data = data.to_vec();
-        for window in windows_of(bits) {
+        for window in self.share.among(windows_of(bits).into_iter()) {
             self.case.window = window;
             self.check_small_arguments(most);
         }
@@ -34,7 +34,7 @@ impl Inputs {
         let starts: &[u64] = if self.long { &[0, 1, 2, 3, 5, 7, 8, 9] } else { &[0] };
         let turns = if self.long { 20 } else { 1 };
         let mut windows = windows_of(17).into_iter().cycle();
-        for word in 0..=u16::MAX {
+        for word in self.share.among(0..=u16::MAX) {
             self.case.data = word.to_le_bytes().to_vec();
             for &start in starts {
                 for position in 0..=16 - start {
