@@ -1,19 +1,14 @@
 #!/usr/bin/env python3
 """compare.py EXEC OURS RUST [--seed N] [--logs N]: the messages of many logs by both, byte for byte."""
-import argparse
-import collections
 import os
-import random
 import subprocess
 import sys
 
-ROOT = os.path.dirname(os.path.dirname(os.path.dirname(os.path.abspath(__file__))))
-sys.path.insert(0, os.path.join(ROOT, "samples"))
+sys.path.insert(0, os.path.dirname(os.path.dirname(os.path.abspath(__file__))))
 sys.dont_write_bytecode = True
-from logs import Packet, any_log, log, samples  # noqa: E402
+from alike import compare  # noqa: E402
+from logs import Packet, any_log, log  # noqa: E402
 
-# What a channel's lines say is in the test logs or in the first so many of seed 1, which every run tells: so that it is met hangs on
-# no seed.
 ALWAYS = 25
 CAUSES = ("continuation without initial", "its channel closed", "mismatched continuation", "non-byte-aligned non-final fragment",
           "overlapping initial", "too many channels", "too many messages held")
@@ -78,42 +73,19 @@ def told(command, data):
     return run.returncode, run.stdout, run.stderr
 
 
-def main():
-    words = argparse.ArgumentParser()
-    words.add_argument("exec")
-    words.add_argument("ours")
-    words.add_argument("rust")
-    words.add_argument("--seed", type=int, default=1)
-    words.add_argument("--logs", type=int, default=300)
-    a = words.parse_args()
-    seen = collections.Counter()
-
-    def compare(name, data):
-        ours, rust = told([a.exec, a.ours], data), told([a.exec, a.rust], data)
-        if ours != rust or ours[0] not in (0, 1) or not ours[1]:
-            path = os.path.join(ROOT, "target/oracle/differs.log")
-            with open(path, "wb") as f:
-                f.write(data)
-            sys.exit(f"{name} is told in two ways, or not to its end; it is in {path}")
-        for line in ours[1].decode().splitlines():
-            if line.startswith("  "):
-                first, last = line.split()[1].split("..")
-                kind = line.split()[0] + (", joined" if first != last and "message" in line else "")
-                seen[kind + (":" + line.split(":")[1] if ":" in line else "")] += 1
-
-    def drawn(seed, number):
-        compare(f"log {number} of seed {seed}", one(random.Random(f"{seed} {number}"), number))
-
-    for name, data in samples().items():
-        compare(name, data)
-    for number in range(ALWAYS):
-        drawn(1, number)
-    if seen.keys() != KINDS:
-        sys.exit(f"lines of other kinds than {sorted(KINDS)}: {sorted(seen)}")
-    for number in range(a.logs):
-        drawn(a.seed, number)
-    logs = len(samples()) + ALWAYS + a.logs
-    print(f"chain: {logs} logs alike; " + ", ".join(f"{k} {n}" for k, n in sorted(seen.items())))
+def tell(given, data):
+    ours, rust = told([given.exec, given.ours], data), told([given.exec, given.rust], data)
+    alike = ours == rust and ours[0] in (0, 1) and ours[1]
+    return ours[1].decode(), None if alike else "is told in two ways, or not to its end"
 
 
-main()
+def lines(said):
+    for line in said.splitlines():
+        if line.startswith("  "):
+            first, last = line.split()[1].split("..")
+            kind = line.split()[0] + (", joined" if first != last and "message" in line else "")
+            yield kind + (":" + line.split(":")[1] if ":" in line else "")
+
+
+logs, kinds = compare(("exec", "ours", "rust"), 300, ALWAYS, KINDS, one, tell, lines)
+print(f"chain: {logs} logs alike; {kinds}")

@@ -1,18 +1,14 @@
 #!/usr/bin/env python3
 """compare.py OURS EXEC RUST [--seed N] [--logs N]: the two listings of many logs, byte for byte."""
-import argparse
-import collections
 import os
-import random
 import subprocess
 import sys
 
-ROOT = os.path.dirname(os.path.dirname(os.path.dirname(os.path.abspath(__file__))))
-sys.path.insert(0, os.path.join(ROOT, "samples"))
+sys.path.insert(0, os.path.dirname(os.path.dirname(os.path.abspath(__file__))))
 sys.dont_write_bytecode = True
-from logs import Packet, any_log, any_packet, log, longest, samples  # noqa: E402
+from alike import compare  # noqa: E402
+from logs import Packet, any_log, any_packet, log, longest  # noqa: E402
 
-# Each kind of line is in the test logs or in the first so many of seed 1, which every run lists: so that it is met hangs on no seed.
 ALWAYS = 10
 KINDS = {"B", "B E", "B K", "B L", "P", "P malformed", "V", "X"}
 CHANNELS = ([3], [0, 1], [0, 1, 2, 3, 127, 128, 16384, 2**32 - 1], list(range(200)), list(range(6000)))
@@ -63,45 +59,19 @@ def listing(command, data):
     return subprocess.run(command, input=data, stdout=subprocess.PIPE, stderr=subprocess.DEVNULL, check=False).stdout
 
 
-def main():
-    words = argparse.ArgumentParser()
-    words.add_argument("ours")
-    words.add_argument("exec")
-    words.add_argument("rust")
-    words.add_argument("--seed", type=int, default=1)
-    words.add_argument("--logs", type=int, default=2000)
-    a = words.parse_args()
-    seen = collections.Counter()
-
-    def compare(name, data):
-        ours, rust = listing([a.ours, "list"], data), listing([a.exec, a.rust], data)
-        if ours != rust:
-            path = os.path.join(ROOT, "target/oracle/differs.log")
-            with open(path, "wb") as f:
-                f.write(data)
-            sys.exit(f"{name} is listed in two ways; it is in {path}")
-        for line in rust.splitlines():
-            words = line.split()
-            kind = words[0].decode()
-            if kind == "B" and words[7] != b"-":
-                kind += " " + words[7].decode()
-            elif kind == "P" and words[3] == b"1":
-                kind = "P malformed"
-            seen[kind] += 1
-
-    def drawn(seed, number):
-        compare(f"log {number} of seed {seed}", one(random.Random(f"{seed} {number}"), number))
-
-    for name, data in samples().items():
-        compare(name, data)
-    for number in range(ALWAYS):
-        drawn(1, number)
-    if seen.keys() != KINDS:
-        sys.exit(f"lines of other kinds than {sorted(KINDS)}: {sorted(seen)}")
-    for number in range(a.logs):
-        drawn(a.seed, number)
-    logs = len(samples()) + ALWAYS + a.logs
-    print(f"listings: {logs} logs alike; lines: " + ", ".join(f"{k} {n}" for k, n in sorted(seen.items())))
+def tell(given, data):
+    ours, rust = listing([given.ours, "list"], data), listing([given.exec, given.rust], data)
+    return rust, None if ours == rust else "is listed in two ways"
 
 
-main()
+def lines(said):
+    for line in said.splitlines():
+        words = line.decode().split()
+        if words[0] == "B" and words[7] != "-":
+            yield f"B {words[7]}"
+        else:
+            yield "P malformed" if words[0] == "P" and words[3] == "1" else words[0]
+
+
+logs, kinds = compare(("ours", "exec", "rust"), 2000, ALWAYS, KINDS, one, tell, lines)
+print(f"listings: {logs} logs alike; lines: {kinds}")
