@@ -57,7 +57,7 @@ enum {
     GRITWHEEL_MOST_BUFFERED_BITS = 536870912
 };
 
-/* ---- The bit reader (libexports.a) --------------------------------------------------------------------------------------
+/* ---- The bit reader (libexports_bitio.a) --------------------------------------------------------------------------------
  *
  * A reader is a byte slice and a window in it: `start` (its first bit, counted from the data's first), `position` (bits
  * consumed, counted from the window's first) and `length` (its bits). A call is handed the window and answers the window
@@ -182,10 +182,10 @@ void gritwheel_parse_class_net_cache(const uint8_t *bytes, size_t n, uint64_t st
                                      uint32_t function_count, gritwheel_record *records, size_t k,
                                      uint64_t out[GRITWHEEL_WALK_WORDS]);
 
-/* The same walks into a list of field records (libexports_records.a): the walk runs on `numbers` first, and then a record is
- * written for each place that it filled. A record has a place where both lists have one, so 14 comes where the shorter list is
- * full; places of `records` after the last one, and of `numbers` after the first `i`, stay as they were. `stream` is 0 for
- * RepLayout, 1 for RepLayout with its tail kept, any other the class net cache; `function_count` is looked at there alone. */
+/* The same walks into a list of field records: the walk runs on `numbers` first, and then a record is written for each place
+ * that it filled. A record has a place where both lists have one, so 14 comes where the shorter list is full; places of
+ * `records` after the last one, and of `numbers` after the first `i`, stay as they were. `stream` is 0 for RepLayout, 1 for
+ * RepLayout with its tail kept, any other the class net cache; `function_count` is looked at there alone. */
 typedef struct gritwheel_field_record {
     uint32_t handle;
     uint32_t bit_count;

@@ -8,7 +8,7 @@ pub type Out = [u64; 7];
 /// A walk's: the seven, then how many records were written.
 pub type WalkOut = [u64; 8];
 
-/// A record in a list of field records (crates/records).
+/// A record in a list of field records (crates/field_records).
 #[repr(C)]
 #[derive(Clone, Copy, PartialEq)]
 pub struct FieldRecord {
@@ -138,7 +138,7 @@ reads! {
     gritwheel_skip_remaining();
 }
 
-// Through the reader that keeps its slice (crates/reader).
+// Through the reader that keeps its slice (crates/bitio_reader).
 reads! {
     Out;
     gritwheel_reader_read_bits(count: u32);

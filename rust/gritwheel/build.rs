@@ -3,7 +3,7 @@
 use std::path::{Path, PathBuf};
 
 /// What `rt staticlib` makes, an archive for each part.
-const PARTS: [&str; 5] = ["exports", "exports_field", "exports_packet", "exports_writer", "exports_bunch"];
+const PARTS: [&str; 5] = ["exports_bitio", "exports_field", "exports_packet", "exports_writer", "exports_bunch"];
 
 /// What an installation has instead: all in one.
 const WHOLE: &str = "gritwheel";

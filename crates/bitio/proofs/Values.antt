@@ -4,24 +4,24 @@ use mathlib.Core.List.{List}
 use Prim.Native.Nat.{ℕ, _+_, _^_, _%_, _<_}
 use native.Mathlib.Nat.{mod-eq-of-lt}
 use lib.Dec.{ltb}
-use Rattle.window.specs.declared.Window.{Window}
-use Rattle.window.specs.declared.BitError.{BitError}
-use Rattle.window.specs.declared.U64.{U64}
-use Rattle.bits.specs.Bits.{bitsAt}
-use Rattle.window.specs.Refusals.{Refusal, paper, tooWide}
-use Rattle.window.specs.Parse.{Parse, got, refused, _>>=_, _>>_, give, refuseIf}
-use Rattle.window.specs.Reads.{sound, need, taken, bits, readBits}
-use Rattle.window.specs.Answers.{u64Answer}
-use Rattle.bits.proofs.Numbers.{bits-lt}
-use Rattle.window.proofs.Rows.{from-last, then-got, then-refused}
+use Rattle.bitio_window.specs.declared.Window.{Window}
+use Rattle.bitio_window.specs.declared.BitError.{BitError}
+use Rattle.bitio_window.specs.declared.U64.{U64}
+use Rattle.bitio_bits.specs.Bits.{bitsAt}
+use Rattle.bitio_window.specs.Refusals.{Refusal, paper, tooWide}
+use Rattle.bitio_window.specs.Parse.{Parse, got, refused, _>>=_, _>>_, give, refuseIf}
+use Rattle.bitio_window.specs.Reads.{sound, need, bitsTaken, bits, readBits}
+use Rattle.bitio_window.specs.Answers.{u64Answer}
+use Rattle.bitio_bits.proofs.Numbers.{bits-lt}
+use Rattle.bitio_window.proofs.Rows.{from-last, then-got, then-refused}
 
 module _ (d : List ℕ) (w : Window) (n : ℕ) where
   pub read-lt : {v : ℕ} {u : Window} → readBits n d w ≡ got v u → v < 2 ^ n
-  unfolding readBits bits taken
+  unfolding readBits bits bitsTaken
   read-lt {v} {u} h =
       let wide = from-last d w sound (refuseIf (ltb 64 n) (tooWide n) >> bits n) h in
       let short = from-last d (wide .0) (refuseIf (ltb 64 n) (tooWide n)) (bits n) (wide .1) in
-      let read = from-last d (short .0) (need n) (taken n) (short .1) in
+      let read = from-last d (short .0) (need n) (bitsTaken n) (short .1) in
       let e : bitsAt d (read .0 .start .0 + read .0 .position .0) n ≡ v = cc in
       rw e at (bits-lt d (read .0 .start .0 + read .0 .position .0) n)
 

@@ -2,16 +2,16 @@
 ghost use mathlib.Core.Path.{_≡_};
 ghost use Prim.Native.Nat.{_+_};
 ghost use lib.ListN.{length};
-ghost use Rattle.window.specs.Copies.{copyBits, copyLeaves};
-ghost use Rattle.window.specs.Answers.{ofDone};
-use bits::inner::masks;
-use cursor::windows;
-use window::BitError;
-use window::Done;
-use window::DoneRead;
-use window::Window;
-use window::inner;
-use window::inner::copy;
+ghost use Rattle.bitio_window.specs.Copies.{copyBits, copyLeaves};
+ghost use Rattle.bitio_window.specs.Answers.{ofDone};
+use crate::windows;
+use bitio_bits::inner::masks;
+use bitio_window::BitError;
+use bitio_window::Done;
+use bitio_window::DoneRead;
+use bitio_window::Window;
+use bitio_window::inner;
+use bitio_window::inner::copy;
 
 // The copy's refusals, in document 01's order; with none, the window past its bits.
 fn judge(bytes: &[u8], w: Window, room: usize, count: u64) -> DoneRead
@@ -39,7 +39,9 @@ fn judge(bytes: &[u8], w: Window, room: usize, count: u64) -> DoneRead
 
 pub fn copy_bits_to(bytes: &[u8], w: Window, target: &mut [u8], count: u64) -> DoneRead
     ensures answers { λ r. ⌜ ofDone r ≡ copyBits (length (now (target .entry))) count (now (bytes .entry)) w ⌝ }
-    ensures leaves { λ r. ⌜ now (target .exit) ≡ copyLeaves (ofDone r) (now (target .entry)) (now (bytes .entry)) (w .start .0 + w .position .0) count ⌝ }
+    ensures leaves { λ r. ⌜
+        now (target .exit) ≡ copyLeaves (ofDone r) (now (target .entry)) (now (bytes .entry)) (w .start .0 + w .position .0) count
+        ⌝ }
 {
     let read = judge(bytes, w, target.len(), count);
     let answer = read.answer;

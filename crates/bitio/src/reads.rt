@@ -1,35 +1,35 @@
 // Reads, in the order of vrf-bitio/src/lib.rs. Each tests its data and its window, and then reads as `inner` does.
 ghost use mathlib.Core.Path.{_≡_};
 ghost use lib.Ieee.{binary32, binary64};
-ghost use Rattle.window.specs.declared.Window.{Window};
-ghost use Rattle.window.specs.Reads.{readBit, readBits, readI32, readF32, readF64};
-ghost use Rattle.numbers.specs.Reads.{readPacked, readSerialized};
-ghost use Rattle.window.specs.Parse.{got};
-ghost use Rattle.bits.specs.Floats.{reading};
-ghost use Rattle.window.specs.Answers.{ofBit, ofU8, ofU16, ofU32, ofI32, ofU64, ofF32, ofF64, f32Answer, f64Answer};
-use bits::inner::masks;
-use bits::inner::signed;
-use cursor::windows;
-use window::Bit;
-use window::BitError;
-use window::BitRead;
-use window::Done;
-use window::F32;
-use window::F32Read;
-use window::F64;
-use window::F64Read;
-use window::I32;
-use window::I32Read;
-use window::U8;
-use window::U8Read;
-use window::U16;
-use window::U16Read;
-use window::U32;
-use window::U32Read;
-use window::U64;
-use window::U64Read;
-use window::Window;
-use window::inner;
+ghost use Rattle.bitio_window.specs.declared.Window.{Window};
+ghost use Rattle.bitio_window.specs.Reads.{readBit, readBits, readI32, readF32, readF64};
+ghost use Rattle.bitio_window.specs.Numbers.{readPacked, readSerialized};
+ghost use Rattle.bitio_window.specs.Parse.{got};
+ghost use Rattle.bitio_bits.specs.Floats.{decoded};
+ghost use Rattle.bitio_window.specs.Answers.{ofBit, ofU8, ofU16, ofU32, ofI32, ofU64, ofF32, ofF64, f32Answer, f64Answer};
+use crate::windows;
+use bitio_bits::inner::masks;
+use bitio_bits::inner::signed;
+use bitio_window::Bit;
+use bitio_window::BitError;
+use bitio_window::BitRead;
+use bitio_window::Done;
+use bitio_window::F32;
+use bitio_window::F32Read;
+use bitio_window::F64;
+use bitio_window::F64Read;
+use bitio_window::I32;
+use bitio_window::I32Read;
+use bitio_window::U8;
+use bitio_window::U8Read;
+use bitio_window::U16;
+use bitio_window::U16Read;
+use bitio_window::U32;
+use bitio_window::U32Read;
+use bitio_window::U64;
+use bitio_window::U64Read;
+use bitio_window::Window;
+use bitio_window::inner;
 
 pub fn read_bit(bytes: &[u8], w: Window) -> BitRead
     ensures { λ r. ⌜ ofBit r ≡ readBit (now (bytes .entry)) w ⌝ }
@@ -142,20 +142,29 @@ pub fn read_u64(bytes: &[u8], w: Window) -> U64Read
     read_bits(bytes, w, 64)
 }
 
+// IEEE 754: a sign bit, and below it what stands for infinity; what is above that stands for no number.
+const F32_SIGN: u32 = 0x8000_0000;
+
+const F32_INFINITY: u32 = 0x7f80_0000;
+
+const F64_SIGN: u64 = 0x8000_0000_0000_0000;
+
+const F64_INFINITY: u64 = 0x7ff0_0000_0000_0000;
+
 // A float of a pattern, or the pattern where it stands for no number.
 fn as_single(v: u32) -> F32
-    ensures { λ r. ⌜ ((u : Window) → f32Answer r u ≡ got (reading binary32 v) u) ⌝ }
+    ensures { λ r. ⌜ ((u : Window) → f32Answer r u ≡ got (decoded binary32 v) u) ⌝ }
 {
-    if v % 2147483648 > 2139095040 {
+    if v % F32_SIGN > F32_INFINITY {
         return F32::NotANumber(v);
     }
     F32::Value(f32::from_bits(v))
 }
 
 fn as_double(v: u64) -> F64
-    ensures { λ r. ⌜ ((u : Window) → f64Answer r u ≡ got (reading binary64 v) u) ⌝ }
+    ensures { λ r. ⌜ ((u : Window) → f64Answer r u ≡ got (decoded binary64 v) u) ⌝ }
 {
-    if v % 9223372036854775808 > 9218868437227405312 {
+    if v % F64_SIGN > F64_INFINITY {
         return F64::NotANumber(v);
     }
     F64::Value(f64::from_bits(v))
@@ -205,7 +214,7 @@ pub fn read_int_packed(bytes: &[u8], w: Window) -> U32Read
             answer: U32::Refused(e),
             next: w,
         },
-        Done::Value => numbers::inner::packed(bytes, w),
+        Done::Value => bitio_window::inner::numbers::packed(bytes, w),
     }
 }
 
@@ -224,7 +233,7 @@ pub fn read_serialized_int(bytes: &[u8], w: Window, max: u32) -> U32Read
                     next: w,
                 };
             }
-            numbers::inner::serialized(bytes, w, max)
+            bitio_window::inner::numbers::serialized(bytes, w, max)
         }
     }
 }

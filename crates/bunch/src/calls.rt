@@ -1,22 +1,24 @@
-// The public calls: each tests the lent memory, then goes on with the inner form.
+// The public calls on a channel: a fragment added, a finished message taken, a channel retired. Each tests the lent memory, then goes
+// on with the inner form.
 ghost use mathlib.Core.Path.{_≡_};
-ghost use Rattle.held.specs.Memory.{memory};
-ghost use Rattle.held.specs.Steps.{adding, taking, retiring};
-ghost use Rattle.held.specs.Calls.{called};
-ghost use Rattle.held.specs.declared.BunchError.{BunchError};
-ghost use Rattle.taking.specs.declared.Handed.{Handed};
-ghost use Rattle.taking.specs.Answers.{ofTaken};
-ghost use Rattle.joining.specs.declared.Judged.{Judged};
-ghost use Rattle.joining.specs.Answers.{ofAdded};
-use held::Accumulator;
-use held::BunchError;
-use held::inner::Checked;
-use held::inner::pass;
-use joining::Added;
-use joining::Judged;
-use places::Place;
-use taking::Handed;
-use taking::Taken;
+ghost use Rattle.bunch_held.specs.Memory.{heldMemory};
+ghost use Rattle.bunch_held.specs.Steps.{adding, taking, retiring};
+ghost use Rattle.bunch_held.specs.Calls.{called};
+ghost use Rattle.bunch_held.specs.declared.BunchError.{BunchError};
+ghost use Rattle.bunch_joining.specs.declared.Handed.{Handed};
+ghost use Rattle.bunch_joining.specs.Taken.{ofTaken};
+ghost use Rattle.bunch_joining.specs.declared.Judged.{Judged};
+ghost use Rattle.bunch_joining.specs.Added.{ofAdded};
+ghost use Rattle.bunch_judging.specs.Held.{fragmentOf};
+use bunch_held::Accumulator;
+use bunch_held::BunchError;
+use bunch_held::inner::Checked;
+use bunch_held::inner::pass;
+use bunch_joining::Added;
+use bunch_joining::Handed;
+use bunch_joining::Judged;
+use bunch_joining::Taken;
+use bunch_places::Place;
 use types::RawBunchHeader;
 
 fn refused(a: Accumulator) -> Taken
@@ -28,7 +30,7 @@ fn refused(a: Accumulator) -> Taken
     }
 }
 
-fn taken(given: taking::inner::Given) -> Taken
+fn taken(given: bunch_joining::inner::taking::Given) -> Taken
     ensures { λ r. ⌜ r ≡ record { answer = given .answer; accumulator = given .left .accumulator } ⌝ }
 {
     let answer = given.answer;
@@ -49,12 +51,16 @@ pub fn take_completed(
     arena: &mut [u8],
     output: &mut [u8],
 ) -> Taken
-    ensures { λ r. ⌜ ofTaken r (memory (now (channels .exit)) (now (places .exit)) (now (arena .exit))) (now (output .exit)) ≡ called a (memory (now (channels .entry)) (now (places .entry)) (now (arena .entry))) «ch_index» taking (now (output .entry)) ⌝ }
+    ensures { λ r. ⌜ (
+        let before = heldMemory (now (channels .entry)) (now (places .entry)) (now (arena .entry)) in
+        let after = heldMemory (now (channels .exit)) (now (places .exit)) (now (arena .exit)) in
+        ofTaken r after (now (output .exit)) ≡ called a before «ch_index» taking (now (output .entry))
+        ) ⌝ }
 {
     let checked = pass(a, channels, places, arena);
     match checked {
         Checked::Sound { used } => {
-            let given = taking::inner::take_completed(
+            let given = bunch_joining::inner::taking::take_completed(
                 a,
                 used,
                 ch_index,
@@ -78,12 +84,16 @@ pub fn retire_channel(
     arena: &mut [u8],
     output: &mut [u8],
 ) -> Taken
-    ensures { λ r. ⌜ ofTaken r (memory (now (channels .exit)) (now (places .exit)) (now (arena .exit))) (now (output .exit)) ≡ called a (memory (now (channels .entry)) (now (places .entry)) (now (arena .entry))) «ch_index» retiring (now (output .entry)) ⌝ }
+    ensures { λ r. ⌜ (
+        let before = heldMemory (now (channels .entry)) (now (places .entry)) (now (arena .entry)) in
+        let after = heldMemory (now (channels .exit)) (now (places .exit)) (now (arena .exit)) in
+        ofTaken r after (now (output .exit)) ≡ called a before «ch_index» retiring (now (output .entry))
+        ) ⌝ }
 {
     let checked = pass(a, channels, places, arena);
     match checked {
         Checked::Sound { used } => {
-            let given = taking::inner::retire_channel(
+            let given = bunch_joining::inner::taking::retire_channel(
                 a,
                 used,
                 ch_index,
@@ -107,7 +117,7 @@ fn unsound(a: Accumulator) -> Added
     }
 }
 
-fn added(outcome: joining::inner::Outcome) -> Added
+fn added(outcome: bunch_joining::inner::adding::Outcome) -> Added
     ensures { λ r. ⌜ r ≡ record { answer = outcome .answer; accumulator = outcome .left .accumulator } ⌝ }
 {
     let answer = outcome.answer;
@@ -131,12 +141,17 @@ pub fn add_fragment(
     arena: &mut [u8],
     output: &mut [u8],
 ) -> Added
-    ensures { λ r. ⌜ ofAdded r (memory (now (channels .exit)) (now (places .exit)) (now (arena .exit))) (now (output .exit)) ≡ called a (memory (now (channels .entry)) (now (places .entry)) (now (arena .entry))) «ch_index» (adding (record { header = header; bits = bits; payload = now (payload .entry) })) (now (output .entry)) ⌝ }
+    ensures { λ r. ⌜ (
+        let before = heldMemory (now (channels .entry)) (now (places .entry)) (now (arena .entry)) in
+        let after = heldMemory (now (channels .exit)) (now (places .exit)) (now (arena .exit)) in
+        ofAdded r after (now (output .exit))
+        ≡ called a before «ch_index» (adding (fragmentOf header bits (now (payload .entry)))) (now (output .entry))
+        ) ⌝ }
 {
     let checked = pass(a, channels, places, arena);
     match checked {
         Checked::Sound { used } => {
-            let outcome = joining::inner::add_fragment(
+            let outcome = bunch_joining::inner::adding::add_fragment(
                 a,
                 used,
                 ch_index,

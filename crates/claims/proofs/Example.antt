@@ -5,15 +5,15 @@ use mathlib.Core.Bool.{Bool, true, false}
 use mathlib.Core.List.{List, [], _∷_}
 use lib.Count.{leadingZeros}
 use lib.IntN.{pos}
-use Rattle.bits.specs.Bits.{bitAt}
-use Rattle.window.specs.Parse.{value}
-use Rattle.numbers.specs.Reads.{log2}
+use Rattle.bitio_bits.specs.Bits.{bitAt}
+use Rattle.bitio_window.specs.Parse.{value}
+use Rattle.bitio_window.specs.Numbers.{log2}
 use Rattle.types.specs.declared.ChannelCloseReason.{ChannelCloseReason}
 use Rattle.types.specs.declared.PartialSequenceKind.{PartialSequenceKind}
 use Rattle.types.specs.declared.RawBunchHeader.{RawBunchHeader}
-use Rattle.spelling.specs.Bits.{bitsOf, bitsFrom, onlyIf, packedUpTo, packedBits, serializedBits, putBit, put}
-use Rattle.spelling.specs.Header.{fieldsOf, headerBits, bunchBits, writable}
-use Rattle.writer.specs.Answers.{added, writeBunch, closePacket}
+use Rattle.writer_spelling.specs.Bits.{numberBits, bitsFrom, onlyIf, packedUpTo, packedBits, serializedBits, putBit, putBits}
+use Rattle.writer_spelling.specs.Header.{fieldsOf, frontBits, backBits, headerBits, bunchBits, writable}
+use Rattle.writer.specs.Answers.{appended, writeBunch, closePacket}
 use Rattle.claims.specs.RoundTrip.{writes}
 
 -- a header of a channel, with R P I F or none of them
@@ -47,10 +47,10 @@ allSet = 255 ∷ 255 ∷ 255 ∷ 255 ∷ 255 ∷ 255 ∷ []
 
 -- 300004A034, and the sixth byte as it was
 pub first : writes (record { header = header 3 false; payload = 165 ∷ []; count = 8 } ∷ []) allSet 0 ≡ record { answer = value 40; packet = 48 ∷ 0 ∷ 4 ∷ 160 ∷ 52 ∷ 255 ∷ [] }
-unfolding writes writeBunch closePacket added writable bunchBits headerBits fieldsOf packedBits packedUpTo serializedBits onlyIf bitsOf bitsFrom bitAt put putBit log2 leadingZeros
+unfolding writes writeBunch closePacket appended writable bunchBits headerBits frontBits backBits fieldsOf packedBits packedUpTo serializedBits onlyIf numberBits bitsFrom bitAt putBits putBit log2 leadingZeros
 first = refl
 
 -- 04A001000001
 pub second : writes (record { header = header 0 true; payload = []; count = 0 } ∷ []) allSet 0 ≡ record { answer = value 48; packet = 4 ∷ 160 ∷ 1 ∷ 0 ∷ 0 ∷ 1 ∷ [] }
-unfolding writes writeBunch closePacket added writable bunchBits headerBits fieldsOf packedBits packedUpTo serializedBits onlyIf bitsOf bitsFrom bitAt put putBit log2 leadingZeros
+unfolding writes writeBunch closePacket appended writable bunchBits headerBits frontBits backBits fieldsOf packedBits packedUpTo serializedBits onlyIf numberBits bitsFrom bitAt putBits putBit log2 leadingZeros
 second = refl

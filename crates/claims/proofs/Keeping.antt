@@ -10,21 +10,21 @@ use mir.Syntax.{w32}
 use mir.Val.{ofZ}
 use borrow.Author.Tests.{le-leb}
 use Rattle.types.specs.Types.{mostChannels}
-use Rattle.reading.specs.declared.Reader.{Reader}
-use Rattle.reading.specs.Packet.{dataBits}
-use Rattle.reading.specs.Memory.{Memory, fit, sound}
-use Rattle.reading.specs.State.{State}
-use Rattle.reading.specs.Answers.{Reply}
+use Rattle.packet_reading.specs.declared.RawPacketReader.{RawPacketReader}
+use Rattle.packet_reading.specs.Packet.{dataBits}
+use Rattle.packet_reading.specs.Memory.{ReaderMemory, tablesFit, tablesSound, readerSound}
+use Rattle.packet_reading.specs.State.{TablesSound}
+use Rattle.packet_reading.specs.Answers.{ReadReply}
 use Rattle.packet.specs.Answers.{readBunch}
 use Rattle.packet.proofs.Soundness.{state}
-use Rattle.reading.proofs.Lasting.{state-after}
-use Rattle.claims.specs.RoundTrip.{after}
+use Rattle.packet_reading.proofs.Lasting.{state-after}
+use Rattle.claims.specs.RoundTrip.{readerAfter}
 
-abbrev pub Sound : Reader → Memory → Type 0
-Sound r m = sound (r .«max_channels») (r .sequences) (r .partials) m ≡ true
+abbrev pub Sound : RawPacketReader → ReaderMemory → Type 0
+Sound r m = readerSound r m ≡ true
 
-tested : {limit s p : ℕ} {m : Memory} → State limit s p m → sound limit s p m ≡ true
-unfolding sound fit
+tested : {limit s p : ℕ} {m : ReaderMemory} → TablesSound limit s p m → tablesSound limit s p m ≡ true
+unfolding tablesSound tablesFit
 tested {limit} {s} {p} {m} x =
     rw (
       le-leb limit mostChannels (x .sequences .few),
@@ -40,18 +40,18 @@ tested {limit} {s} {p} {m} x =
     )
 
 -- a call has left a sound state
-pub record Left (r : Reader) (x : Reply) : Type 0 where
-  pub lasts : Sound (after r x) (x .memory)
+pub record Left (r : RawPacketReader) (x : ReadReply) : Type 0 where
+  pub lasts : Sound (readerAfter r x) (x .memory)
 
-module _ (r : Reader) where
-  either : (b : Bool) {x y : Reply} → Left r x → Left r y → Left r (cond b x y)
+module _ (r : RawPacketReader) where
+  either : (b : Bool) {x y : ReadReply} → Left r x → Left r y → Left r (cond b x y)
   either true f g = f
   either false f g = g
 
-  pub left : (d : List ℕ) (id : ℤ) (at : ℕ) (m : Memory) → Sound r m → Left r (readBunch d id at r m)
+  pub left : (d : List ℕ) (id : ℤ) (at : ℕ) (m : ReaderMemory) → Sound r m → Left r (readBunch d id at r m)
   unfolding readBunch
   left d id at m h =
-      either (sound (r .«max_channels») (r .sequences) (r .partials) m)
+      either (readerSound r m)
       (either (ltb 65535 (length d)) (record { lasts = h })
       (either (ltb (dataBits d) at) (record { lasts = h })
-      (record { lasts = tested (state-after (state (r .«max_channels») (r .sequences) (r .partials) m h) d (ofZ w32 id) at) }))) (record { lasts = h })
+      (record { lasts = tested (state-after (state (r .«max_channels») (r .«live_sequences») (r .«live_partials») m h) d (ofZ w32 id) at) }))) (record { lasts = h })

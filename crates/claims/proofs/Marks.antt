@@ -11,13 +11,13 @@ use lib.ListN.{length, getD, take}
 use lib.Pow.{pow-pos}
 use lib.Seq.{length-take-le, getD-take}
 use borrow.Author.Tests.{ne-eqb}
-use Rattle.bits.specs.Bits.{bitAt}
-use Rattle.reading.specs.Packet.{lastByte, dataBits}
-use Rattle.spelling.specs.Bits.{bitsFrom, put}
+use Rattle.bitio_bits.specs.Bits.{bitAt}
+use Rattle.packet_reading.specs.Packet.{lastByte, dataBits}
+use Rattle.writer_spelling.specs.Bits.{bitsFrom, putBits}
 use Rattle.writer.specs.Answers.{roomOf}
-use Rattle.spelling.proofs.Lists.{put-append}
+use Rattle.writer_spelling.proofs.Lists.{put-append}
 use Rattle.writer.proofs.OneBit.{changed, byte-there}
-use Rattle.spelling.proofs.Lists.{length-put}
+use Rattle.writer_spelling.proofs.Lists.{length-put}
 use Rattle.writer.proofs.Puts.{bits-put-are-there, from-before-stays, same-bits}
 
 -- data of so many bits, and a mark after them
@@ -43,7 +43,7 @@ module _ (x a : ℕ) (h : a < 8) where
 
 module _ (p : List ℕ) (at : ℕ) (room : at + 1 ≤ roomOf p) where
   abbrev closed : List ℕ
-  closed = put p at (true ∷ [])
+  closed = putBits p at (true ∷ [])
 
   abbrev d : List ℕ
   d = take (at / 8 + 1) closed
@@ -52,7 +52,7 @@ module _ (p : List ℕ) (at : ℕ) (room : at + 1 ≤ roomOf p) where
   size = length-take-le (at / 8 + 1) closed (omega (arith, length-put p at (true ∷ [])))
 
   last : lastByte d ≡ changed (getD p (at / 8) 0) 1 (at % 8)
-  unfolding put
+  unfolding putBits
   last =
       let e : length d - 1 ≡ at / 8 = omega (arith, size) in
       ap (λ (i : ℕ). getD d i 0) e ∙ getD-take (at / 8 + 1) closed (at / 8) 0 (omega arith) ∙ byte-there p at true (omega arith)
@@ -80,16 +80,16 @@ module _ (p : List ℕ) (at : ℕ) (room : at + 1 ≤ roomOf p) where
 -- a packet's bits and the end mark, as its bytes
 module _ (p : List ℕ) (bits : List Bool) (room : length bits + 1 ≤ roomOf p) where
   abbrev pub packet : List ℕ
-  packet = take (length bits / 8 + 1) (put p 0 (bits ++ (true ∷ [])))
+  packet = take (length bits / 8 + 1) (putBits p 0 (bits ++ (true ∷ [])))
 
   abbrev q : List ℕ
-  q = put p 0 bits
+  q = putBits p 0 bits
 
   has-room : length bits + 1 ≤ roomOf q
   has-room = rw (length-put p 0 bits) room
 
-  one-by-one : packet ≡ take (length bits / 8 + 1) (put q (length bits) (true ∷ []))
-  one-by-one = ap (take (length bits / 8 + 1)) (put-append p 0 bits (true ∷ []) ∙ ap (λ (k : ℕ). put q k (true ∷ [])) (zero-add (length bits)))
+  one-by-one : packet ≡ take (length bits / 8 + 1) (putBits q (length bits) (true ∷ []))
+  one-by-one = ap (take (length bits / 8 + 1)) (put-append p 0 bits (true ∷ []) ∙ ap (λ (k : ℕ). putBits q k (true ∷ [])) (zero-add (length bits)))
 
   pub packet-marked : Marked packet (length bits)
   packet-marked = rw one-by-one (mark-last q (length bits) has-room)

@@ -10,21 +10,22 @@ use lib.IntN.{ℤ}
 use lib.ListN.{length}
 use mir.Syntax.{w32}
 use mir.Val.{ofZ}
-use Rattle.window.specs.Parse.{value}
+use Rattle.bitio_window.specs.Parse.{value}
 use Rattle.types.specs.declared.RawBunchHeader.{RawBunchHeader}
-use Rattle.header.specs.declared.BunchFields.{BunchFields}
-use Rattle.header.specs.Header.{readable, headerOf, fields}
-use Rattle.reading.specs.declared.Reader.{Reader}
-use Rattle.reading.specs.Packet.{Channels, rest, header, payload, nextBunch}
-use Rattle.reading.specs.Memory.{Memory, channelsOf}
-use Rattle.reading.specs.Answers.{Reply, reply}
+use Rattle.packet_header.specs.declared.BunchFields.{BunchFields}
+use Rattle.packet_header.specs.Header.{readable, asHeader, fields}
+use Rattle.packet_reading.specs.declared.RawPacketReader.{RawPacketReader}
+use Rattle.packet_reading.specs.Packet.{ReaderTables, rest, header, nextBunch}
+use Rattle.packet_reading.specs.Memory.{ReaderMemory, readerTables}
+use Rattle.packet_reading.specs.Answers.{ReadReply, readReply}
 use Rattle.packet.specs.Answers.{readBunch}
 use Rattle.packet.proofs.Calls.{answered}
-use Rattle.spelling.specs.Bits.{bitsFrom}
-use Rattle.spelling.specs.Header.{fieldsOf, headerBits, writable}
-use Rattle.spelling.proofs.Allowed.{reason-back, dormant-back, sayable}
+use Rattle.writer_spelling.specs.Bits.{bitsFrom}
+use Rattle.writer_spelling.specs.Header.{fieldsOf, headerBits, writable}
+use Rattle.writer_spelling.proofs.Allowed.{dormant-back, sayable}
+use Rattle.types.proofs.Reasons.{reason-back}
 use Rattle.writer.proofs.Bunches.{BunchBack, length-bunch, bunch-has-bits, bunch-reads}
-use Rattle.claims.specs.RoundTrip.{Handed, SameFields, SameBunch}
+use Rattle.claims.specs.RoundTrip.{WriterInput, SameFields, SameBunch}
 use Rattle.claims.proofs.Rows.{bitsOfOne, Tested}
 use Rattle.claims.proofs.Marks.{Marked}
 use Rattle.claims.proofs.Keeping.{Sound}
@@ -51,15 +52,15 @@ same-fields h w count id at sequence limited error completed =
       payload-count = refl;
     }
 
-module _ (d : List ℕ) {bits : ℕ} (marked : Marked d bits) (id : ℤ) (r : Reader) (m : Memory) (sound : Sound r m) (at : ℕ) where
-  abbrev t : Channels
-  t = channelsOf (r .sequences) (r .partials) m
+module _ (d : List ℕ) {bits : ℕ} (marked : Marked d bits) (id : ℤ) (r : RawPacketReader) (m : ReaderMemory) (sound : Sound r m) (at : ℕ) where
+  abbrev t : ReaderTables
+  t = readerTables r m
 
-  pub answers : at ≤ bits → reply (nextBunch (r .«max_channels») d (ofZ w32 id) at t) m ≡ readBunch d id at r m
+  pub answers : at ≤ bits → readReply (nextBunch (r .«max_channels») d (ofZ w32 id) at t) m ≡ readBunch d id at r m
   answers h = answered d id at r m sound (marked .few) (rw (marked .data-end) h)
 
   -- one bunch, whose bits stand at the cursor
-  module _ (b : Handed) (channel : b .header .«ch_index» < 2 ^ 32) (tested : Tested b)
+  module _ (b : WriterInput) (channel : b .header .«ch_index» < 2 ^ 32) (tested : Tested b)
       (there : bitsFrom d at (length (bitsOfOne b)) ≡ bitsOfOne b)
       (fits : at + length (bitsOfOne b) ≤ bits) where
     abbrev f : BunchFields
@@ -73,8 +74,8 @@ module _ (d : List ℕ) {bits : ℕ} (marked : Marked d bits) (id : ℤ) (r : Re
         bunch-reads (b .header) (b .payload) (b .count) (sayable (b .header) (tested .allowed) (b .count) channel (tested .few)) d (rest bits at)
         (rw (zero-add at) there) (omega arith)
 
-    reads : headerOf (fields d (rest bits at)) ≡ readable f from
-    reads = ap headerOf (back .header)
+    reads : asHeader (fields d (rest bits at)) ≡ readable f from
+    reads = ap asHeader (back .header)
 
     before : at < bits
     before = omega (arith, bunch-has-bits (b .header) (b .payload) (b .count))
@@ -89,7 +90,7 @@ module _ (d : List ℕ) {bits : ℕ} (marked : Marked d bits) (id : ℤ) (r : Re
         record {
           header = _;
           window = _;
-          answered = ap (λ (x : Reply). x .answer) (sym (answers (omega (arith, before))))
+          answered = ap (λ (x : ReadReply). x .answer) (sym (answers (omega (arith, before))))
               ∙ ap value (at-bunch (r .«max_channels») (ofZ w32 id) t d marked at before f from reads ends);
           fields = same-fields (b .header) (tested .allowed) (b .count) (ofZ w32 id) from _ _ _ _;
           payload = record { unread = refl; whole = refl; inside = rw (marked .data-end) ends; same-bits = rw (zero-add at) at (back .payload-there) };
@@ -98,5 +99,5 @@ module _ (d : List ℕ) {bits : ℕ} (marked : Marked d bits) (id : ℤ) (r : Re
     pub next-place : readBunch d id at r m .next ≡ at + length (bitsOfOne b)
     unfolding fieldsOf
     next-place =
-        ap (λ (x : Reply). x .next) (sym (answers (omega (arith, before)))) ∙ past-bunch (r .«max_channels») (ofZ w32 id) t d marked at before f from reads ends
+        ap (λ (x : ReadReply). x .next) (sym (answers (omega (arith, before)))) ∙ past-bunch (r .«max_channels») (ofZ w32 id) t d marked at before f from reads ends
         ∙ omega (arith, length-bunch (b .header) (b .payload) (b .count))

@@ -5,19 +5,19 @@ use mathlib.Core.Path.{_≡_, ap}
 use mathlib.Core.List.{List}
 use native.Mathlib.Omega.{arith}
 use borrow.Author.Tests.{le-leb, lt-leb, le-ltb}
-use Rattle.header.specs.declared.BunchFields.{BunchFields}
-use Rattle.header.specs.Header.{readable, headerOf, fields}
-use Rattle.sequences.specs.Sequences.{Numbered, numbered}
-use Rattle.channels.specs.Partials.{Tracked, tracking}
-use Rattle.reading.specs.Packet.{Channels, Read, bunch, end, header, payload, rest, whole, nextBunch}
+use Rattle.packet_header.specs.declared.BunchFields.{BunchFields}
+use Rattle.packet_header.specs.Header.{readable, asHeader, fields}
+use Rattle.packet_tracking.specs.Sequences.{Numbered, numbered}
+use Rattle.packet_tracking.specs.Partials.{Tracked, tracking}
+use Rattle.packet_reading.specs.Packet.{ReaderTables, Read, bunch, end, header, payloadWindow, rest, whole, nextBunch}
 use Rattle.claims.proofs.Marks.{Marked}
 
-module _ (limit id : ℕ) (t : Channels) (d : List ℕ) {bits : ℕ} (m : Marked d bits) where
+module _ (limit id : ℕ) (t : ReaderTables) (d : List ℕ) {bits : ℕ} (m : Marked d bits) where
   pub at-end : nextBunch limit d id bits t .outcome ≡ end
   unfolding nextBunch
   at-end = rw (m .some, m .marked, m .data-end, le-leb bits bits (omega arith))
 
-  module _ (at : ℕ) (before : at < bits) (f : BunchFields) (from : ℕ) (reads : headerOf (fields d (rest bits at)) ≡ readable f from)
+  module _ (at : ℕ) (before : at < bits) (f : BunchFields) (from : ℕ) (reads : asHeader (fields d (rest bits at)) ≡ readable f from)
       (fits : from + f .«payload_bit_count» ≤ bits) where
     abbrev n : Numbered
     n = numbered limit id f (t .sequences)
@@ -29,7 +29,7 @@ module _ (limit id : ℕ) (t : Channels) (d : List ℕ) {bits : ℕ} (m : Marked
     unfolding nextBunch
     is-whole = rw (m .some, m .marked, m .data-end, lt-leb bits at before, reads, le-ltb (bits - from) (f .«payload_bit_count») (omega arith))
 
-    pub at-bunch : nextBunch limit d id at t .outcome ≡ bunch (header f id from (n .sequence) (n .limited) (k .error) (k .completed)) (payload from (f .«payload_bit_count»))
+    pub at-bunch : nextBunch limit d id at t .outcome ≡ bunch (header f id from (n .sequence) (n .limited) (k .error) (k .completed)) (payloadWindow from (f .«payload_bit_count»))
     unfolding whole
     at-bunch = ap (λ (x : Read). x .outcome) is-whole
 

@@ -1,8 +1,8 @@
 -- What an opening answers, as five words.
 use Prim.Native.Nat.{ℕ}
 use mathlib.Core.List.{List, [], _∷_}
-use Rattle.window.specs.Parse.{Result, value, refusal}
-use Rattle.held.specs.declared.Accumulator.{Accumulator}
+use Rattle.bitio_window.specs.Parse.{Result, value, refusal}
+use Rattle.bunch_held.specs.declared.Accumulator.{Accumulator}
 
 -- 0 or the refusal's number; the limits and the counts
 unfoldable pub limitsWords : Result Accumulator → List ℕ

@@ -1,15 +1,16 @@
 // Adding a fragment. It writes 79 words; the header comes as its twenty words.
 ghost use mathlib.Core.Path.{_≡_};
 ghost use Rattle.words.specs.Words.{headerFrom};
-ghost use Rattle.held.specs.Memory.{memory};
-ghost use Rattle.held.specs.Steps.{adding};
-ghost use Rattle.held.specs.Calls.{called};
-ghost use Rattle.bunch_words.specs.Fragments.{fragmentWords};
+ghost use Rattle.bunch_held.specs.Memory.{heldMemory, accumulatorOf};
+ghost use Rattle.bunch_held.specs.Steps.{adding};
+ghost use Rattle.bunch_held.specs.Calls.{called};
+ghost use Rattle.exports_bunch_words.specs.Fragments.{fragmentWords};
+ghost use Rattle.bunch_judging.specs.Held.{fragmentOf};
 use bunch::calls;
-use bunch_words::fragments;
-use bunch_words::fragments::FragmentWords;
-use held::Accumulator;
-use places::Place;
+use bunch_held::Accumulator;
+use bunch_places::Place;
+use exports_bunch_words::fragments;
+use exports_bunch_words::fragments::FragmentWords;
 use words::HeaderWords;
 use words::header_of;
 
@@ -29,9 +30,14 @@ pub extern "C" fn gritwheel_add_fragment(
     output: &mut [u8],
     out: &mut FragmentWords,
 )
-    ensures answers { λ r. ⌜ now (out .exit) ≡ fragmentWords (called (record { «max_active» = «max_active»; «max_buffered_bits» = «max_buffered_bits»; active = active; «total_buffered_bits» = total }) (memory (now (channels .entry)) (now (places .entry)) (now (arena .entry))) «ch_index» (adding (record { header = headerFrom (now (header .entry)); bits = bits; payload = now (payload .entry) })) (now (output .entry))) ⌝ }
-    ensures leaves { λ r. ⌜ memory (now (channels .exit)) (now (places .exit)) (now (arena .exit)) ≡ called (record { «max_active» = «max_active»; «max_buffered_bits» = «max_buffered_bits»; active = active; «total_buffered_bits» = total }) (memory (now (channels .entry)) (now (places .entry)) (now (arena .entry))) «ch_index» (adding (record { header = headerFrom (now (header .entry)); bits = bits; payload = now (payload .entry) })) (now (output .entry)) .memory ⌝ }
-    ensures writes { λ r. ⌜ now (output .exit) ≡ called (record { «max_active» = «max_active»; «max_buffered_bits» = «max_buffered_bits»; active = active; «total_buffered_bits» = total }) (memory (now (channels .entry)) (now (places .entry)) (now (arena .entry))) «ch_index» (adding (record { header = headerFrom (now (header .entry)); bits = bits; payload = now (payload .entry) })) (now (output .entry)) .output ⌝ }
+    ensures { λ r. ⌜ (
+        let a = accumulatorOf «max_active» «max_buffered_bits» active total in
+        let before = heldMemory (now (channels .entry)) (now (places .entry)) (now (arena .entry)) in
+        let after = heldMemory (now (channels .exit)) (now (places .exit)) (now (arena .exit)) in
+        let fragment = fragmentOf (headerFrom (now (header .entry))) bits (now (payload .entry)) in
+        let reply = called a before «ch_index» (adding fragment) (now (output .entry)) in
+        (now (out .exit) ≡ fragmentWords reply) × ((after ≡ reply .memory) × (now (output .exit) ≡ reply .output))
+        ) ⌝ }
 {
     let a = Accumulator {
         max_active,

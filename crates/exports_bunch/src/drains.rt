@@ -1,15 +1,15 @@
 // Draining. It writes six words; the unfinished messages go to the output and the list.
 ghost use mathlib.Core.Path.{_≡_};
-ghost use Rattle.held.specs.Memory.{memory};
-ghost use Rattle.draining.specs.Draining.{drained};
-ghost use Rattle.exports_bunch.specs.Drained.{shownBytes, drainedWords};
-use bunch_words::taken::said;
-use draining::Drain;
-use draining::Listed;
-use draining::drains;
-use draining::inner;
-use held::Accumulator;
-use places::Place;
+ghost use Rattle.bunch_held.specs.Memory.{heldMemory, accumulatorOf};
+ghost use Rattle.bunch.specs.Draining.{drained};
+ghost use Rattle.exports_bunch.specs.Drained.{shownByteCount, drainedWords};
+use bunch::Drain;
+use bunch::Listed;
+use bunch::drains;
+use bunch::inner;
+use bunch_held::Accumulator;
+use bunch_places::Place;
+use exports_bunch_words::taken::said;
 
 pub type DrainedWords = [u64; 6];
 
@@ -26,9 +26,13 @@ pub extern "C" fn gritwheel_drain_unfinished(
     list: &mut [Listed],
     out: &mut DrainedWords,
 )
-    ensures answers { λ r. ⌜ now (out .exit) ≡ drainedWords (drained (record { «max_active» = «max_active»; «max_buffered_bits» = «max_buffered_bits»; active = active; «total_buffered_bits» = total }) (memory (now (channels .entry)) (now (places .entry)) (now (arena .entry))) (now (output .entry)) (now (list .entry))) (shownBytes (record { «max_active» = «max_active»; «max_buffered_bits» = «max_buffered_bits»; active = active; «total_buffered_bits» = total }) (memory (now (channels .entry)) (now (places .entry)) (now (arena .entry)))) ⌝ }
-    ensures writes { λ r. ⌜ now (output .exit) ≡ drained (record { «max_active» = «max_active»; «max_buffered_bits» = «max_buffered_bits»; active = active; «total_buffered_bits» = total }) (memory (now (channels .entry)) (now (places .entry)) (now (arena .entry))) (now (output .entry)) (now (list .entry)) .output ⌝ }
-    ensures lists { λ r. ⌜ now (list .exit) ≡ drained (record { «max_active» = «max_active»; «max_buffered_bits» = «max_buffered_bits»; active = active; «total_buffered_bits» = total }) (memory (now (channels .entry)) (now (places .entry)) (now (arena .entry))) (now (output .entry)) (now (list .entry)) .list ⌝ }
+    ensures { λ r. ⌜ (
+        let a = accumulatorOf «max_active» «max_buffered_bits» active total in
+        let before = heldMemory (now (channels .entry)) (now (places .entry)) (now (arena .entry)) in
+        let reply = drained a before (now (output .entry)) (now (list .entry)) in
+        (now (out .exit) ≡ drainedWords reply (shownByteCount a before))
+        × ((now (output .exit) ≡ reply .output) × (now (list .exit) ≡ reply .list))
+        ) ⌝ }
 {
     let a = Accumulator {
         max_active,

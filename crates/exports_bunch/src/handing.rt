@@ -1,14 +1,14 @@
 // Taking and retiring. Each writes 26 words; the lent memory is three columns and an output.
 ghost use mathlib.Core.Path.{_≡_};
-ghost use Rattle.held.specs.Memory.{memory};
-ghost use Rattle.held.specs.Steps.{taking, retiring};
-ghost use Rattle.held.specs.Calls.{called};
-ghost use Rattle.bunch_words.specs.Handed.{handedWords};
+ghost use Rattle.bunch_held.specs.Memory.{heldMemory, accumulatorOf};
+ghost use Rattle.bunch_held.specs.Steps.{taking, retiring};
+ghost use Rattle.bunch_held.specs.Calls.{called};
+ghost use Rattle.exports_bunch_words.specs.Handed.{handedWords};
 use bunch::calls;
-use bunch_words::taken;
-use bunch_words::taken::HandedWords;
-use held::Accumulator;
-use places::Place;
+use bunch_held::Accumulator;
+use bunch_places::Place;
+use exports_bunch_words::taken;
+use exports_bunch_words::taken::HandedWords;
 
 #[no_mangle]
 pub extern "C" fn gritwheel_take_completed(
@@ -23,9 +23,13 @@ pub extern "C" fn gritwheel_take_completed(
     output: &mut [u8],
     out: &mut HandedWords,
 )
-    ensures answers { λ r. ⌜ now (out .exit) ≡ handedWords (called (record { «max_active» = «max_active»; «max_buffered_bits» = «max_buffered_bits»; active = active; «total_buffered_bits» = total }) (memory (now (channels .entry)) (now (places .entry)) (now (arena .entry))) «ch_index» taking (now (output .entry))) ⌝ }
-    ensures leaves { λ r. ⌜ memory (now (channels .exit)) (now (places .exit)) (now (arena .exit)) ≡ called (record { «max_active» = «max_active»; «max_buffered_bits» = «max_buffered_bits»; active = active; «total_buffered_bits» = total }) (memory (now (channels .entry)) (now (places .entry)) (now (arena .entry))) «ch_index» taking (now (output .entry)) .memory ⌝ }
-    ensures writes { λ r. ⌜ now (output .exit) ≡ called (record { «max_active» = «max_active»; «max_buffered_bits» = «max_buffered_bits»; active = active; «total_buffered_bits» = total }) (memory (now (channels .entry)) (now (places .entry)) (now (arena .entry))) «ch_index» taking (now (output .entry)) .output ⌝ }
+    ensures { λ r. ⌜ (
+        let a = accumulatorOf «max_active» «max_buffered_bits» active total in
+        let before = heldMemory (now (channels .entry)) (now (places .entry)) (now (arena .entry)) in
+        let after = heldMemory (now (channels .exit)) (now (places .exit)) (now (arena .exit)) in
+        let reply = called a before «ch_index» taking (now (output .entry)) in
+        (now (out .exit) ≡ handedWords reply) × ((after ≡ reply .memory) × (now (output .exit) ≡ reply .output))
+        ) ⌝ }
 {
     let a = Accumulator {
         max_active,
@@ -51,9 +55,13 @@ pub extern "C" fn gritwheel_retire_channel(
     output: &mut [u8],
     out: &mut HandedWords,
 )
-    ensures answers { λ r. ⌜ now (out .exit) ≡ handedWords (called (record { «max_active» = «max_active»; «max_buffered_bits» = «max_buffered_bits»; active = active; «total_buffered_bits» = total }) (memory (now (channels .entry)) (now (places .entry)) (now (arena .entry))) «ch_index» retiring (now (output .entry))) ⌝ }
-    ensures leaves { λ r. ⌜ memory (now (channels .exit)) (now (places .exit)) (now (arena .exit)) ≡ called (record { «max_active» = «max_active»; «max_buffered_bits» = «max_buffered_bits»; active = active; «total_buffered_bits» = total }) (memory (now (channels .entry)) (now (places .entry)) (now (arena .entry))) «ch_index» retiring (now (output .entry)) .memory ⌝ }
-    ensures writes { λ r. ⌜ now (output .exit) ≡ called (record { «max_active» = «max_active»; «max_buffered_bits» = «max_buffered_bits»; active = active; «total_buffered_bits» = total }) (memory (now (channels .entry)) (now (places .entry)) (now (arena .entry))) «ch_index» retiring (now (output .entry)) .output ⌝ }
+    ensures { λ r. ⌜ (
+        let a = accumulatorOf «max_active» «max_buffered_bits» active total in
+        let before = heldMemory (now (channels .entry)) (now (places .entry)) (now (arena .entry)) in
+        let after = heldMemory (now (channels .exit)) (now (places .exit)) (now (arena .exit)) in
+        let reply = called a before «ch_index» retiring (now (output .entry)) in
+        (now (out .exit) ≡ handedWords reply) × ((after ≡ reply .memory) × (now (output .exit) ≡ reply .output))
+        ) ⌝ }
 {
     let a = Accumulator {
         max_active,

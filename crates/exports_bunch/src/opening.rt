@@ -1,16 +1,16 @@
 // Opening. It writes five words.
 ghost use mathlib.Core.Path.{_≡_};
-ghost use Rattle.held.specs.Memory.{memory};
-ghost use Rattle.draining.specs.Opening.{ofOpened, opened};
+ghost use Rattle.bunch_held.specs.Memory.{heldMemory};
+ghost use Rattle.bunch.specs.Opening.{ofOpenedAccumulator, openedAccumulator};
 ghost use Rattle.exports_bunch.specs.Opening.{limitsWords};
-use draining::Opened;
-use draining::opening;
-use places::Place;
+use bunch::Opened;
+use bunch::opening;
+use bunch_places::Place;
 
 pub type LimitsWords = [u64; 5];
 
 fn of_opened(r: Opened) -> LimitsWords
-    ensures { λ x. ⌜ x ≡ limitsWords (ofOpened r) ⌝ }
+    ensures { λ x. ⌜ x ≡ limitsWords (ofOpenedAccumulator r) ⌝ }
 {
     match r {
         Opened::Value(a) => [
@@ -33,7 +33,10 @@ pub extern "C" fn gritwheel_with_limits(
     arena: &[u8],
     out: &mut LimitsWords,
 )
-    ensures { λ r. ⌜ now (out .exit) ≡ limitsWords (opened «max_active» «max_buffered_bits» (memory (now (channels .entry)) (now (places .entry)) (now (arena .entry)))) ⌝ }
+    ensures { λ r. ⌜ (
+        let before = heldMemory (now (channels .entry)) (now (places .entry)) (now (arena .entry)) in
+        now (out .exit) ≡ limitsWords (openedAccumulator «max_active» «max_buffered_bits» before)
+        ) ⌝ }
 {
     let opened = opening::with_limits(max_active, max_buffered_bits, channels, places, arena);
     let answer = of_opened(opened);

@@ -2,10 +2,10 @@
 use Prim.Native.Nat.{ℕ}
 use mathlib.Core.Path.{_≡_, ap, _∙_}
 use mathlib.Core.List.{List}
-use Rattle.reading.specs.declared.BunchRead.{BunchRead}
-use Rattle.reading.specs.Memory.{Memory}
-use Rattle.reading.specs.Answers.{Reply, ofRead}
+use Rattle.packet_reading.specs.declared.BunchRead.{BunchRead}
+use Rattle.packet_reading.specs.Memory.{ReaderMemory}
+use Rattle.packet_reading.specs.Answers.{ReadReply, ofRead}
 use Rattle.exports_packet.specs.Packets.{bunchWords}
 
-pub told-bunch : (x : BunchRead) {m : Memory} {y : Reply} {r : List ℕ} → ofRead x m ≡ y → ((k : Memory) → r ≡ bunchWords (ofRead x k)) → (r ≡ bunchWords y) × (m ≡ y .memory)
-told-bunch x {m = m} e f = (f m ∙ ap bunchWords e, ap (λ (z : Reply). z .memory) e)
+pub told-bunch : (x : BunchRead) {m : ReaderMemory} {y : ReadReply} {r : List ℕ} → ofRead x m ≡ y → ((k : ReaderMemory) → r ≡ bunchWords (ofRead x k)) → (r ≡ bunchWords y) × (m ≡ y .memory)
+told-bunch x {m = m} e f = (f m ∙ ap bunchWords e, ap (λ (z : ReadReply). z .memory) e)

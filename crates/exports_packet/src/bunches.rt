@@ -2,18 +2,19 @@
 ghost use mathlib.Core.Path.{_≡_};
 ghost use mathlib.Core.List.{_∷_, _++_};
 ghost use lib.ListN.{getD};
-ghost use Rattle.reading.specs.Memory.{Memory};
-ghost use Rattle.reading.specs.Answers.{packetPaper, ofRead};
-ghost use Rattle.packet.specs.Answers.{ofOpened};
-ghost use Rattle.answers.specs.Words.{window};
+ghost use Rattle.packet_reading.specs.Memory.{ReaderMemory};
+ghost use Rattle.packet_reading.specs.Answers.{packetPaper, ofRead};
+ghost use Rattle.packet.specs.Answers.{ofOpenedReader};
+ghost use Rattle.exports_words.specs.Words.{windowWords};
 ghost use Rattle.words.specs.Words.{headerWords};
 ghost use Rattle.exports_packet.specs.Packets.{noBunch, bunchWords, readerWords};
+ghost use Rattle.exports_packet.specs.Parts.{readWords};
+use bitio_window::Window;
 use packet::Opened;
-use reading::Bunch;
-use reading::BunchRead;
-use reading::PacketError;
+use packet_reading::Bunch;
+use packet_reading::BunchRead;
+use packet_reading::PacketError;
 use types::RawBunchHeader;
-use window::Window;
 use words::inner::put;
 use words::of_header;
 
@@ -22,14 +23,14 @@ pub type ReaderWords = [u64; 4];
 pub type BunchWords = [u64; 34];
 
 pub fn of_opened(r: Opened) -> ReaderWords
-    ensures { λ x. ⌜ x ≡ readerWords (ofOpened r) ⌝ }
+    ensures { λ x. ⌜ x ≡ readerWords (ofOpenedReader r) ⌝ }
 {
     match r {
         Opened::Value(v) => [
             0,
             v.max_channels as u64,
-            v.sequences as u64,
-            v.partials as u64,
+            v.live_sequences as u64,
+            v.live_partials as u64,
         ],
         Opened::Refused(e) => {
             let said = refusal(e);
@@ -45,7 +46,10 @@ struct Numbers {
 }
 
 fn refusal(e: PacketError) -> Numbers
-    ensures { λ r. ⌜ r ≡ record { number = packetPaper e .number; first = getD (packetPaper e .returns) 0 0; second = getD (packetPaper e .returns) 1 0 } ⌝ }
+    ensures { λ r. ⌜ (
+        let p = packetPaper e in
+        r ≡ record { number = p .number; first = getD (p .returns) 0 0; second = getD (p .returns) 1 0 }
+        ) ⌝ }
 {
     match e {
         PacketError::CursorPastEnd {
@@ -70,7 +74,7 @@ fn said(number: u64, first: u64, second: u64) -> Numbers
 
 // No bunch: the words of one are 0.
 fn without_bunch(r: BunchRead, said: Numbers, case: u64) -> BunchWords
-    ensures { λ x. ⌜ x ≡ said .number ∷ said .first ∷ said .second ∷ case ∷ r .next .0 ∷ r .bunches ∷ r .malformed ∷ r .«partial_errors» ∷ r .«channel_limit» ∷ r .sequences ∷ r .partials ∷ noBunch ⌝ }
+    ensures { λ x. ⌜ x ≡ said .number ∷ said .first ∷ said .second ∷ case ∷ readWords r noBunch ⌝ }
 {
     let next = r.next;
     [
@@ -80,11 +84,11 @@ fn without_bunch(r: BunchRead, said: Numbers, case: u64) -> BunchWords
         case,
         next.0,
         r.bunches as u64,
-        r.malformed as u64,
+        r.malformed_packets as u64,
         r.partial_errors as u64,
-        r.channel_limit as u64,
-        r.sequences as u64,
-        r.partials as u64,
+        r.channel_limits as u64,
+        r.live_sequences as u64,
+        r.live_partials as u64,
         0,
         0,
         0,
@@ -112,7 +116,7 @@ fn without_bunch(r: BunchRead, said: Numbers, case: u64) -> BunchWords
 }
 
 fn with_bunch(r: BunchRead, header: RawBunchHeader, w: Window) -> BunchWords
-    ensures { λ x. ⌜ x ≡ 0 ∷ 0 ∷ 0 ∷ 0 ∷ r .next .0 ∷ r .bunches ∷ r .malformed ∷ r .«partial_errors» ∷ r .«channel_limit» ∷ r .sequences ∷ r .partials ∷ (headerWords header ++ window w) ⌝ }
+    ensures { λ x. ⌜ x ≡ 0 ∷ 0 ∷ 0 ∷ 0 ∷ readWords r (headerWords header ++ windowWords w) ⌝ }
 {
     let start = w.start;
     let position = w.position;
@@ -126,7 +130,7 @@ fn with_bunch(r: BunchRead, header: RawBunchHeader, w: Window) -> BunchWords
 }
 
 pub fn of_read(r: BunchRead) -> BunchWords
-    ensures { λ x. ⌜ ((m : Memory) → x ≡ bunchWords (ofRead r m)) ⌝ }
+    ensures { λ x. ⌜ ((m : ReaderMemory) → x ≡ bunchWords (ofRead r m)) ⌝ }
 {
     let answer = r.answer;
     match answer {

@@ -1,14 +1,14 @@
 // The packet reader. Opening writes four words, reading a bunch 34; the tables are five lent columns.
 ghost use mathlib.Core.Path.{_≡_};
-ghost use Rattle.reading.specs.Memory.{memory};
-ghost use Rattle.packet.specs.Answers.{opened, readBunch};
+ghost use Rattle.packet_reading.specs.Memory.{readerMemory, readerOf};
+ghost use Rattle.packet.specs.Answers.{openedReader, readBunch};
 ghost use Rattle.exports_packet.specs.Packets.{bunchWords, readerWords};
 use crate::bunches;
 use crate::bunches::BunchWords;
 use crate::bunches::ReaderWords;
+use bitio_window::PacketBit;
 use packet::packets;
-use reading::Reader;
-use window::PacketBit;
+use packet_reading::RawPacketReader;
 
 #[no_mangle]
 pub extern "C" fn gritwheel_with_max_channels(
@@ -20,7 +20,11 @@ pub extern "C" fn gritwheel_with_max_channels(
     partial_reliables: &[u32],
     out: &mut ReaderWords,
 )
-    ensures { λ r. ⌜ now (out .exit) ≡ readerWords (opened «max_channels» (memory (now («sequence_channels» .entry)) (now («sequence_numbers» .entry)) (now («partial_channels» .entry)) (now («partial_sequences» .entry)) (now («partial_reliables» .entry)))) ⌝ }
+    ensures { λ r. ⌜ (
+        let before = readerMemory (now («sequence_channels» .entry)) (now («sequence_numbers» .entry))
+        (now («partial_channels» .entry)) (now («partial_sequences» .entry)) (now («partial_reliables» .entry)) in
+        now (out .exit) ≡ readerWords (openedReader «max_channels» before)
+        ) ⌝ }
 {
     let opened = packets::with_max_channels(
         max_channels,
@@ -49,17 +53,23 @@ pub extern "C" fn gritwheel_read_bunch(
     partial_reliables: &mut [u32],
     out: &mut BunchWords,
 )
-    ensures answers { λ r. ⌜ now (out .exit) ≡ bunchWords (readBunch (now (packet .entry)) «packet_id» at (record { «max_channels» = «max_channels»; sequences = sequences; partials = partials }) (memory (now («sequence_channels» .entry)) (now («sequence_numbers» .entry)) (now («partial_channels» .entry)) (now («partial_sequences» .entry)) (now («partial_reliables» .entry)))) ⌝ }
-    ensures leaves { λ r. ⌜ memory (now («sequence_channels» .exit)) (now («sequence_numbers» .exit)) (now («partial_channels» .exit)) (now («partial_sequences» .exit)) (now («partial_reliables» .exit)) ≡ readBunch (now (packet .entry)) «packet_id» at (record { «max_channels» = «max_channels»; sequences = sequences; partials = partials }) (memory (now («sequence_channels» .entry)) (now («sequence_numbers» .entry)) (now («partial_channels» .entry)) (now («partial_sequences» .entry)) (now («partial_reliables» .entry))) .memory ⌝ }
+    ensures { λ r. ⌜ (
+        let before = readerMemory (now («sequence_channels» .entry)) (now («sequence_numbers» .entry))
+        (now («partial_channels» .entry)) (now («partial_sequences» .entry)) (now («partial_reliables» .entry)) in
+        let after = readerMemory (now («sequence_channels» .exit)) (now («sequence_numbers» .exit))
+        (now («partial_channels» .exit)) (now («partial_sequences» .exit)) (now («partial_reliables» .exit)) in
+        let reply = readBunch (now (packet .entry)) «packet_id» at (readerOf «max_channels» sequences partials) before in
+        (now (out .exit) ≡ bunchWords reply) × (after ≡ reply .memory)
+        ) ⌝ }
 {
     let read = packets::read_bunch(
         packet,
         packet_id,
         PacketBit(at),
-        Reader {
+        RawPacketReader {
             max_channels,
-            sequences,
-            partials,
+            live_sequences: sequences,
+            live_partials: partials,
         },
         sequence_channels,
         sequence_numbers,

@@ -1,11 +1,12 @@
-// Reads through the reader that keeps its packet's slice, for C and Rust: each writes the seven words of its answer (crates/answers).
+// Reads through the reader that keeps its packet's slice, for C and Rust: each writes the seven words of its answer (crates/exports_words).
 ghost use mathlib.Core.Path.{_≡_};
-ghost use Rattle.window.specs.Reads.{readBits};
-ghost use Rattle.numbers.specs.Reads.{readPacked, readSerialized};
-ghost use Rattle.answers.specs.Words.{windowAt, words, one};
-use answers::words;
-use answers::words::Words;
-use reader::plain;
+ghost use Rattle.bitio_window.specs.Reads.{readBits};
+ghost use Rattle.bitio_window.specs.Numbers.{readPacked, readSerialized};
+ghost use Rattle.bitio_window.specs.Windows.{windowAt};
+ghost use Rattle.exports_words.specs.Words.{words, one};
+use bitio_reader::plain;
+use exports_words::words;
+use exports_words::words::Words;
 
 #[no_mangle]
 pub extern "C" fn gritwheel_reader_read_bits(

@@ -1,6 +1,6 @@
 // A writer's answer as words.
 ghost use mathlib.Core.Path.{_≡_};
-ghost use Rattle.window.specs.Parse.{refusal};
+ghost use Rattle.bitio_window.specs.Parse.{refusal};
 ghost use Rattle.writer.specs.Answers.{writePaper, ofWritten};
 ghost use Rattle.exports_writer.specs.Words.{writtenWords};
 use writer::WriteError;

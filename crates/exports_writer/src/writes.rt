@@ -1,17 +1,17 @@
 // The two calls, over a packet that is lent.
 ghost use mathlib.Core.Path.{_≡_};
 ghost use Rattle.writer.specs.Answers.{writeBunch, closePacket};
-ghost use Rattle.exports_writer.specs.Words.{writtenWords, reasonOf, headerOf};
+ghost use Rattle.exports_writer.specs.Words.{writtenWords, reasonIf, writtenHeader};
 use crate::words;
 use crate::words::WrittenWords;
+use bitio_window::PacketBit;
 use types::ChannelCloseReason;
 use types::PartialSequenceKind;
 use types::RawBunchHeader;
-use window::PacketBit;
 use writer::writing;
 
 fn reason(dormancy: bool) -> ChannelCloseReason
-    ensures { λ r. ⌜ r ≡ reasonOf dormancy ⌝ }
+    ensures { λ r. ⌜ r ≡ reasonIf dormancy ⌝ }
 {
     if dormancy {
         return ChannelCloseReason::Dormancy;
@@ -40,8 +40,12 @@ pub extern "C" fn gritwheel_write_bunch(
     at: u64,
     out: &mut WrittenWords,
 )
-    ensures answers { λ r. ⌜ now (out .exit) ≡ writtenWords (writeBunch (headerOf «ch_index» «b_open» «b_close» «b_dormant» dormancy «b_is_replication_paused» «b_reliable» «b_partial» «b_partial_initial» «b_partial_final» «b_has_package_map_exports» «b_has_must_be_mapped_guids») (now (payload .entry)) count (now (packet .entry)) at .answer) ⌝ }
-    ensures leaves { λ r. ⌜ now (packet .exit) ≡ writeBunch (headerOf «ch_index» «b_open» «b_close» «b_dormant» dormancy «b_is_replication_paused» «b_reliable» «b_partial» «b_partial_initial» «b_partial_final» «b_has_package_map_exports» «b_has_must_be_mapped_guids») (now (payload .entry)) count (now (packet .entry)) at .packet ⌝ }
+    ensures { λ r. ⌜ (
+        let header = writtenHeader «ch_index» «b_open» «b_close» «b_dormant» dormancy «b_is_replication_paused» «b_reliable»
+        «b_partial» «b_partial_initial» «b_partial_final» «b_has_package_map_exports» «b_has_must_be_mapped_guids» in
+        let reply = writeBunch header (now (payload .entry)) count (now (packet .entry)) at in
+        (now (out .exit) ≡ writtenWords (reply .answer)) × (now (packet .exit) ≡ reply .packet)
+        ) ⌝ }
 {
     let header = RawBunchHeader {
         packet_id: 0,
@@ -72,8 +76,10 @@ pub extern "C" fn gritwheel_write_bunch(
 
 #[no_mangle]
 pub extern "C" fn gritwheel_close_packet(packet: &mut [u8], at: u64, out: &mut WrittenWords)
-    ensures answers { λ r. ⌜ now (out .exit) ≡ writtenWords (closePacket (now (packet .entry)) at .answer) ⌝ }
-    ensures leaves { λ r. ⌜ now (packet .exit) ≡ closePacket (now (packet .entry)) at .packet ⌝ }
+    ensures { λ r. ⌜ (
+        let reply = closePacket (now (packet .entry)) at in
+        (now (out .exit) ≡ writtenWords (reply .answer)) × (now (packet .exit) ≡ reply .packet)
+        ) ⌝ }
 {
     let written = writing::close_packet(packet, PacketBit(at));
     let answer = words::of_written(written);

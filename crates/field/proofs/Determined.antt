@@ -4,17 +4,17 @@ use mathlib.Core.Path.{_≡_, refl, ap, sym, _∙_}
 use mathlib.Core.Bool.{cond}
 use mathlib.Core.List.{List}
 use lib.Dec.{eqb}
-use Rattle.window.specs.declared.Window.{Window}
-use Rattle.window.specs.declared.BitError.{BitError}
-use Rattle.window.specs.declared.BitError.the-variants.{Eof, MalformedIntPacked, IntPackedOverflow, InvalidSerializedIntMax, InvalidBitLength, InvalidWidth, DataTooLong}
-use Rattle.window.specs.Refusals.{Refusal, paper, tooFewBits, endless, tooLarge, zeroMaximum, beyond, tooWide, tooLong, listFull, unresolved}
-use Rattle.window.specs.Parse.{Answer, got, refused}
-use Rattle.cursor.proofs.Determined.{placeAt, unpaper, unpaper-paper}
-use Rattle.walking.specs.declared.FieldError.{FieldError}
-use Rattle.walking.specs.declared.Stop.{Stop}
-use Rattle.walking.specs.declared.Walk.{Walk}
-use Rattle.walking.specs.Walks as W
-use Rattle.walking.specs.Answers.{fieldPaper, stopAnswer, ofWalk}
+use Rattle.bitio_window.specs.declared.Window.{Window}
+use Rattle.bitio_window.specs.declared.BitError.{BitError}
+use Rattle.bitio_window.specs.declared.BitError.the-variants.{Eof, MalformedIntPacked, IntPackedOverflow, InvalidSerializedIntMax, InvalidBitLength, InvalidWidth, DataTooLong}
+use Rattle.bitio_window.specs.Refusals.{Refusal, paper, tooFewBits, endless, tooLarge, zeroMaximum, beyond, tooWide, tooLong, listFull, unresolved}
+use Rattle.bitio_window.specs.Parse.{Answer, got, refused}
+use Rattle.bitio.proofs.Determined.{placeAt, unpaper, unpaper-paper}
+use Rattle.field_walking.specs.declared.FieldError.{FieldError}
+use Rattle.field_walking.specs.declared.Stop.{Stop}
+use Rattle.field_walking.specs.declared.Walk.{Walk}
+use Rattle.field_walking.specs.Walks as W
+use Rattle.field_walking.specs.Answers.{fieldPaper, stopAnswer, ofWalk}
 
 -- a refusal by its number and what it returns
 unfield : Refusal → FieldError

@@ -5,15 +5,15 @@ use mathlib.Core.List.{List}
 use Prim.Native.Nat.{ℕ}
 use borrow.Author.Tests.{eq-eqb, ne-eqb}
 use lib.Dec.{eqb}
-use Rattle.window.specs.declared.Window.{Window}
-use Rattle.window.specs.Refusals.{Refusal, unresolved}
-use Rattle.window.specs.Parse.{got, refused, _>>_, give, refuse, refuseIf}
-use Rattle.window.specs.Reads.{sound, bit, readBit}
-use Rattle.window.specs.Sound.{Sound}
-use Rattle.cursor.proofs.Tests.{passes}
-use Rattle.window.proofs.Keeps.{sound-stays, Keeps, keeps-then, keeps-give, keeps-bits}
-use Rattle.walking.specs.Records.{repLayout, classNetCache}
-use Rattle.walking.specs.Walks.{stopped, walked}
+use Rattle.bitio_window.specs.declared.Window.{Window}
+use Rattle.bitio_window.specs.Refusals.{Refusal, unresolved}
+use Rattle.bitio_window.specs.Parse.{got, refused, _>>_, give, refuse, refuseIf}
+use Rattle.bitio_window.specs.Reads.{sound, bit, readBit}
+use Rattle.bitio_window.specs.Sound.{Sound}
+use Rattle.bitio.proofs.Tests.{passes}
+use Rattle.bitio_window.proofs.Keeps.{sound-stays, Keeps, keeps-then, keeps-give, keeps-bits}
+use Rattle.field_walking.specs.Records.{repLayout, classNetCache}
+use Rattle.field_walking.specs.Walks.{stopped, walked}
 use Rattle.field.specs.Walks.{settle, parseRepLayout, parseClassNetCache}
 
 keeps-bit : Keeps bit

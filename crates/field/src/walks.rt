@@ -1,20 +1,20 @@
 // The walks, in the order of vrf-net/src/field.rs, as the forms that keep the count beside the outcome.
 ghost use mathlib.Core.Path.{_≡_};
 ghost use mathlib.Core.Bool.{true, false};
-ghost use Rattle.window.specs.Parse.{refused};
-ghost use Rattle.field.specs.Walks.{parseRepLayout, parseClassNetCache, settled};
-ghost use Rattle.walking.specs.Answers.{fieldPaper, stopAnswer, ofWalk};
+ghost use Rattle.bitio_window.specs.Parse.{refused};
+ghost use Rattle.field.specs.Walks.{parseRepLayout, parseClassNetCache, settledWalk};
+ghost use Rattle.field_walking.specs.Answers.{fieldPaper, stopAnswer, ofWalk};
 use bitio::reads;
-use cursor::windows;
-use walking::FieldError;
-use walking::Record;
-use walking::Stop;
-use walking::Walk;
-use walking::inner;
-use walking::inner::Kind;
-use window::Bit;
-use window::Done;
-use window::Window;
+use bitio::windows;
+use bitio_window::Bit;
+use bitio_window::Done;
+use bitio_window::Window;
+use field_walking::FieldError;
+use field_walking::Record;
+use field_walking::Stop;
+use field_walking::Walk;
+use field_walking::inner;
+use field_walking::inner::RecordKind;
 
 fn refused(e: FieldError, next: Window) -> Walk
     ensures { λ r. ⌜ (r .count ≡ 0) × (stopAnswer (r .stop) (r .next) ≡ refused (fieldPaper e) next) ⌝ }
@@ -28,7 +28,7 @@ fn refused(e: FieldError, next: Window) -> Walk
 
 // The bits after the end: retained, or skipped.
 fn ended(w: Window, count: u64, retain: bool) -> Walk
-    ensures { λ r. ⌜ (r .count ≡ count) × (stopAnswer (r .stop) (r .next) ≡ settled retain (stopAnswer (Stop.Ended) w)) ⌝ }
+    ensures { λ r. ⌜ (r .count ≡ count) × (stopAnswer (r .stop) (r .next) ≡ settledWalk retain (stopAnswer (Stop.Ended) w)) ⌝ }
 {
     let position = w.position;
     if w.length <= position.0 {
@@ -49,12 +49,14 @@ fn ended(w: Window, count: u64, retain: bool) -> Walk
     Walk {
         stop,
         count,
-        next: inner::at_end(w),
+        next: bitio_window::inner::move_to_end(w),
     }
 }
 
 fn settle(walk: Walk, retain: bool) -> Walk
-    ensures { λ r. ⌜ (r .count ≡ walk .count) × (stopAnswer (r .stop) (r .next) ≡ settled retain (stopAnswer (walk .stop) (walk .next))) ⌝ }
+    ensures { λ r. ⌜
+        (r .count ≡ walk .count) × (stopAnswer (r .stop) (r .next) ≡ settledWalk retain (stopAnswer (walk .stop) (walk .next)))
+        ⌝ }
 {
     let stop = walk.stop;
     match stop {
@@ -73,7 +75,10 @@ fn rep_layout(bytes: &[u8], w: Window, retain: bool, records: &mut [Record]) -> 
     let answer = read.answer;
     match answer {
         Bit::Refused(e) => refused(FieldError::Bits(e), next),
-        Bit::Value(_) => settle(inner::walk(bytes, next, Kind::RepLayout, records), retain),
+        Bit::Value(_) => settle(
+            inner::walk(bytes, next, RecordKind::RepLayout, records),
+            retain,
+        ),
     }
 }
 
@@ -103,7 +108,7 @@ pub fn parse_class_net_cache(
             if function_count == 0 {
                 return refused(FieldError::UnresolvedFunctionCount, w);
             }
-            inner::walk(bytes, w, Kind::ClassNetCache(function_count), records)
+            inner::walk(bytes, w, RecordKind::ClassNetCache(function_count), records)
         }
     }
 }

@@ -12,21 +12,21 @@ use Rattle.log.specs.Log.{versionOf, entryAt}
 use Rattle.log.proofs.Steps.{within}
 use Rattle.listing.specs.declared.inner.input.Part.{Part}
 use Rattle.tables.specs.Columns.{ascending}
-use Rattle.reading.specs.Memory.{Memory, memory}
-use Rattle.sequences.specs.Fits.{Fits}
-use Rattle.reading.specs.State.{State}
-use Rattle.listing.specs.Input.{Held, Short}
-use Rattle.telling.specs.Turns.{PacketRoom}
-use Rattle.telling.proofs.Telling.{SameSizes}
+use Rattle.packet_reading.specs.Memory.{ReaderMemory, readerMemory}
+use Rattle.packet_tracking.specs.Fits.{TableFits}
+use Rattle.packet_reading.specs.State.{TablesSound}
+use Rattle.listing.specs.Input.{InBuffer, Short}
+use Rattle.log_telling.specs.Turns.{PacketRoom}
+use Rattle.log_telling.proofs.Telling.{SameSizes}
 
-pub record Going (buffer₀ out₀ buffer out : List ℕ) (part : Part) (at used : ℕ) (m₀ m : Memory) (s p : ℕ) : Type 0 where
-  pub held : Held buffer part
+pub record Going (buffer₀ out₀ buffer out : List ℕ) (part : Part) (at used : ℕ) (m₀ m : ReaderMemory) (s p : ℕ) : Type 0 where
+  pub held : InBuffer buffer part
   pub place : at ≤ part .held
   pub room : PacketRoom out used
   pub in-size : length buffer ≡ length buffer₀
   pub out-size : length out ≡ length out₀
   pub sizes : SameSizes m m₀
-  pub state : State 4096 s p m
+  pub state : TablesSound 4096 s p m
 
 pub record Lies (held start next : ℕ) : Type 0 where
   pub long : start ≤ next
@@ -48,9 +48,9 @@ short-packet d byte at q =
       short = λ r. let w = within d at (sym q ∙ r) in omega (arith, w .long, w .follows, byte at, byte (at + 1));
     }
 
-none-fit : {ch : List ℕ} → 4096 ≡ length ch → Fits 4096 0 ch
+none-fit : {ch : List ℕ} → 4096 ≡ length ch → TableFits 4096 0 ch
 unfolding ascending
 none-fit e = record { few = omega arith; live-fits = omega arith; room = omega arith; ascends = refl }
 
-pub no-channels : {a b c d e : List ℕ} → 4096 ≡ length a → 4096 ≡ length b → 4096 ≡ length c → 4096 ≡ length d → 4096 ≡ length e → State 4096 0 0 (memory a b c d e)
+pub no-channels : {a b c d e : List ℕ} → 4096 ≡ length a → 4096 ≡ length b → 4096 ≡ length c → 4096 ≡ length d → 4096 ≡ length e → TablesSound 4096 0 0 (readerMemory a b c d e)
 no-channels a b c d e = record { sequences = none-fit a; numbers = omega arith; partials = none-fit c; partial-sequences = omega arith; partial-reliables = omega arith }

@@ -4,10 +4,11 @@ use mathlib.Core.Path.{_≡_}
 use mathlib.Core.List.{List}
 use lib.IntN.{ℤ}
 use lib.ListN.{length, getD}
+use Rattle.types.specs.Types.{longestPacket}
 use Rattle.log.specs.declared.Entry.{Entry}
 use Rattle.listing.specs.declared.inner.input.Part.{Part}
 
-pub record Held (buffer : List ℕ) (part : Part) : Type 0 where
+pub record InBuffer (buffer : List ℕ) (part : Part) : Type 0 where
   pub inside : part .held ≤ length buffer
 
 -- n bytes from place i on now stand at the front
@@ -17,4 +18,4 @@ pub record Slid (i n : ℕ) (before after : List ℕ) : Type 0 where
 
 -- a packet's bytes
 pub record Short (e : Entry) : Type 0 where
-  pub short : {id : ℤ} {start n next : ℕ} → e ≡ Entry.Packet id start n next → next ≤ start + 65535
+  pub short : {id : ℤ} {start n next : ℕ} → e ≡ Entry.Packet id start n next → next ≤ start + longestPacket

@@ -1,6 +1,8 @@
 // Lists a packet log that it reads on standard input; where the listing ends early it says so on standard error.
 ghost use mathlib.Core.Path.{_≡_};
 ghost use lib.ListN.{length};
+ghost use Rattle.types.specs.Types.{mostChannels};
+use types::MAX_ACTIVE_CHANNELS;
 
 mod inner;
 
@@ -19,10 +21,10 @@ fn output_room() -> [u8; 2097152]
 }
 
 // A column of the reader's tables at document 01's limit.
-fn column() -> [u32; 4096]
-    ensures { λ r. ⌜ 4096 ≡ length r ⌝ }
+fn column() -> [u32; MAX_ACTIVE_CHANNELS]
+    ensures { λ r. ⌜ mostChannels ≡ length r ⌝ }
 {
-    [0; 4096]
+    [0; MAX_ACTIVE_CHANNELS]
 }
 
 fn main() {

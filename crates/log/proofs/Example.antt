@@ -3,7 +3,7 @@ use mathlib.Core.Path.{_≡_, refl}
 use mathlib.Core.List.{List, [], _∷_}
 use Prim.Native.Nat.{ℕ}
 use lib.IntN.{pos}
-use Rattle.bits.specs.Floats.{signed}
+use Rattle.bitio_bits.specs.Floats.{signed}
 use Rattle.log.specs.Log.{versionOf, entryAt, whole, cut, ends, logFrom, logOf}
 
 -- `01 0005 00000007 300004A034 0006 00000008 04A001000001`

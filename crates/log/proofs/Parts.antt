@@ -11,7 +11,7 @@ use lib.Dec.{eqb, leb}
 use lib.IntN.{ℤ}
 use lib.ListN.{length, getD, take, drop, length-append, length-drop, List·getD-append}
 use lib.Seq.{getD-append-add, drop-append-add, drop-append-le, take-append-le}
-use Rattle.bits.specs.Floats.{signed}
+use Rattle.bitio_bits.specs.Floats.{signed}
 use Rattle.log.specs.declared.Entry.{Entry}
 use Rattle.log.specs.Log.{lengthAt, idAt, entryAt}
 use Rattle.log.proofs.Entries.{at-end, cut-at, whole-at}

@@ -1,18 +1,17 @@
 -- A log that is written by document 01's sentence is read back as the packets it was written of.
 use mathlib.Core.Path.{_≡_, refl, ap, sym, _∙_}
 use mathlib.Core.List.{List, [], _∷_, _++_, append-assoc}
-use Prim.Native.Nat.{ℕ, suc, _+_, _*_, _-_, _/_, _%_, _^_, _<_}
+use Prim.Native.Nat.{ℕ, _+_, _*_, _/_, _%_, _<_}
 use native.Mathlib.Nat.{add-zero}
 use native.Mathlib.Omega.{arith}
-use borrow.Author.Tests.{lt-ltb, le-ltb}
-use lib.IntN.{ℤ, pos, negsuc}
 use lib.ListN.{length, take, drop, length-append}
 use lib.Seq.{take-length}
 use mir.Syntax.{w32}
 use mir.Val.{SFits, ofZ}
-use Rattle.bits.specs.Floats.{signed}
+use Rattle.bitio_bits.specs.Floats.{signed}
+use Rattle.bitio_bits.proofs.Signed.{signed-word}
 use Rattle.log.specs.declared.Entry.{Entry}
-use Rattle.log.specs.Log.{versionOf, idAt, lengthAt, entryAt, Packet, whole, onward, logAt, logOf}
+use Rattle.log.specs.Log.{versionOf, idAt, lengthAt, entryAt, Packet, whole, logOn, logAt, logOf}
 use Rattle.log.proofs.Entries.{at-end, whole-at}
 use Rattle.log.proofs.Steps.{steps}
 use Rattle.log.proofs.Parts.{shifted, behind, before, packet-bytes}
@@ -37,14 +36,6 @@ abbrev pub All : List Packet → Type 0
 All [] = Unit
 All (p ∷ ps) = Fits p × All ps
 
-signed-word : (x : ℤ) → SFits w32 x → signed (ofZ w32 x) ≡ x
-unfolding signed
-signed-word (pos n) f = let b : n < 2 ^ 31 = f .sfits in rw (lt-ltb n (2 ^ 31) b)
-signed-word (negsuc n) f =
-    let b : n < 2 ^ 31 = f .sfits in
-    let e : 2 ^ 32 - 1 - (2 ^ 32 - suc n) ≡ n = omega arith in
-    rw (le-ltb (2 ^ 32 - suc n) (2 ^ 31) (omega arith)) (ap negsuc e)
-
 four-bytes : (w : ℕ) → 16777216 * (w / 16777216) + 65536 * (w / 65536 % 256) + 256 * (w / 256 % 256) + w % 256 ≡ w
 four-bytes w = omega arith
 
@@ -60,7 +51,7 @@ back : (a : List ℕ) (ps : List Packet) → All ps → logAt (a ++ recordsOf ps
 back a [] h =
     let d = a ++ [] in
     let e : length a ≡ length d = omega (arith, length-append a []) in
-    steps d (length a) ∙ ap (λ (x : Entry). onward d x (logAt d)) (sym (at-end d (length a) e))
+    steps d (length a) ∙ ap (λ (x : Entry). logOn d x (logAt d)) (sym (at-end d (length a) e))
 back a (p ∷ ps) h =
     let q = recordOf p in
     let d = a ++ (q ++ recordsOf ps) in
@@ -69,7 +60,7 @@ back a (p ∷ ps) h =
     let bytes : take n (drop (length a + 6) d) ≡ p .bytes = packet-bytes a q (recordsOf ps) 6 n (omega arith) ∙ take-length (p .bytes) in
     let place : length (a ++ q) ≡ length a + (6 + n) = omega (arith, length-append a q) in
     let rest : logAt d (length a + (6 + n)) ≡ record { packets = ps; ending = whole } = rw (append-assoc a q (recordsOf ps), place) at (back (a ++ q) ps (h .1)) in
-    steps d (length a) ∙ ap (λ (x : Entry). onward d x (logAt d)) (rw (add-zero (length a)) at found) ∙ rw (bytes, rest)
+    steps d (length a) ∙ ap (λ (x : Entry). logOn d x (logAt d)) (rw (add-zero (length a)) at found) ∙ rw (bytes, rest)
 
 pub reads-back : (ps : List Packet) → All ps → logOf (1 ∷ recordsOf ps) ≡ record { packets = ps; ending = whole }
 unfolding versionOf

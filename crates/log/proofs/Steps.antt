@@ -9,7 +9,7 @@ use lib.Dec.{eqb, leb}
 use lib.IntN.{ℤ}
 use lib.ListN.{length}
 use Rattle.log.specs.declared.Entry.{Entry}
-use Rattle.log.specs.Log.{Log, lengthAt, idAt, entryAt, onward, logFrom, logAt}
+use Rattle.log.specs.Log.{Log, lengthAt, idAt, entryAt, logOn, logFrom, logAt}
 
 module _ (d : List ℕ) where
   -- a record lies within the log
@@ -33,7 +33,7 @@ module _ (d : List ℕ) where
           let k : i + 6 + lengthAt d i ≡ next = cc in
           record { starts = sym s; long = sym m; follows = omega arith; inside = omega (arith, leb-true (i + 6 + lengthAt d i) (length d) h) }
 
-  same-onward : (x : Entry) (f g : ℕ → Log) → ((id : ℤ) (start n next : ℕ) → x ≡ Entry.Packet id start n next → f next ≡ g next) → onward d x f ≡ onward d x g
+  same-onward : (x : Entry) (f g : ℕ → Log) → ((id : ℤ) (start n next : ℕ) → x ≡ Entry.Packet id start n next → f next ≡ g next) → logOn d x f ≡ logOn d x g
   same-onward Entry.End f g h = refl
   same-onward (Entry.Cut j) f g h = refl
   same-onward (Entry.Packet id s n next) f g h = let e : f next ≡ g next = h id s n next refl in rw e
@@ -47,7 +47,7 @@ module _ (d : List ℕ) where
       same-onward (entryAt d i) (logFrom m d) (logFrom n d)
       (λ id s k next e. let w = within i e in bound m n next (omega (arith, w .starts, w .follows, w .inside)) (omega (arith, w .starts, w .follows, w .inside)))
 
-  pub steps : (i : ℕ) → logAt d i ≡ onward d (entryAt d i) (logAt d)
+  pub steps : (i : ℕ) → logAt d i ≡ logOn d (entryAt d i) (logAt d)
   unfolding logFrom
   steps i =
       same-onward (entryAt d i) (logFrom (length d - i) d) (logAt d)

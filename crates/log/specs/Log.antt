@@ -5,7 +5,7 @@ use mathlib.Core.List.{List, [], _∷_}
 use lib.Dec.{eqb, leb}
 use lib.IntN.{ℤ}
 use lib.ListN.{length, getD, take, drop}
-use Rattle.bits.specs.Floats.{signed}
+use Rattle.bitio_bits.specs.Floats.{signed}
 use Rattle.log.specs.declared.Version.{Version}
 use Rattle.log.specs.declared.Entry.{Entry}
 
@@ -25,8 +25,9 @@ idAt d i = signed (16777216 * getD d (i + 2) 0 + 65536 * getD d (i + 3) 0 + 256 
 -- has "a cut record: X and the byte offset of its start".
 unfoldable pub entryAt : List ℕ → ℕ → Entry
 entryAt d i =
+    let next = i + 6 + lengthAt d i in
     cond (eqb i (length d)) Entry.End
-    (cond (leb (i + 6 + lengthAt d i) (length d)) (Entry.Packet (idAt d i) (i + 6) (lengthAt d i) (i + 6 + lengthAt d i)) (Entry.Cut i))
+    (cond (leb next (length d)) (Entry.Packet (idAt d i) (i + 6) (lengthAt d i) next) (Entry.Cut i))
 
 -- "for each packet …": a packet's id and bytes
 pub record Packet : Type 0 where
@@ -47,26 +48,26 @@ pub record Log : Type 0 where
 abbrev pub ends : Ending → Log
 ends e = record { packets = []; ending = e }
 
-abbrev pub onward : List ℕ → Entry → (ℕ → Log) → Log
-onward d Entry.End on = ends whole
-onward d (Entry.Cut i) on = ends (cut i)
-onward d (Entry.Packet id start n next) on =
+abbrev pub logOn : List ℕ → Entry → (ℕ → Log) → Log
+logOn d Entry.End on = ends whole
+logOn d (Entry.Cut i) on = ends (cut i)
+logOn d (Entry.Packet id start n next) on =
     record { packets = record { id = id; bytes = take n (drop start d) } ∷ on next .packets; ending = on next .ending }
 
 -- The first argument only bounds the recursion: a record takes at least six bytes.
 unfoldable pub logFrom : ℕ → List ℕ → ℕ → Log
 logFrom zero d i = ends whole
-logFrom (suc n) d i = onward d (entryAt d i) (logFrom n d)
+logFrom (suc n) d i = logOn d (entryAt d i) (logFrom n d)
 
 -- the log from a place on
 abbrev pub logAt : List ℕ → ℕ → Log
 logAt d i = logFrom (suc (length d - i)) d i
 
-abbrev pub opened : Version → Log → Log
-opened Version.Ours l = l
-opened (Version.Other b) l = ends (otherVersion b)
-opened Version.Missing l = ends (cut 0)
+abbrev pub openedLog : Version → Log → Log
+openedLog Version.Ours l = l
+openedLog (Version.Other b) l = ends (otherVersion b)
+openedLog Version.Missing l = ends (cut 0)
 
 -- "Log: a version byte 1, then for each packet …" "V and X end the listing."
 abbrev pub logOf : List ℕ → Log
-logOf d = opened (versionOf d) (logAt d 1)
+logOf d = openedLog (versionOf d) (logAt d 1)

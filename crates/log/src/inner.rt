@@ -4,7 +4,7 @@ ghost use Prim.Native.Nat.{_+_, _≤_, _<_};
 ghost use lib.ListN.{length};
 ghost use Rattle.log.specs.Log.{lengthAt, idAt};
 use crate::Head;
-use bits::inner::signed;
+use bitio_bits::inner::signed;
 
 fn byte(x: u8) -> u64
     ensures { λ r. ⌜ (r ≡ x) × (r < 256) ⌝ }

@@ -3,18 +3,18 @@ use mathlib.Core.Path.{_≡_, refl, ap, sym, _∙_}
 use mathlib.Core.Bool.{cond}
 use lib.Dec.{eqb}
 use lib.ListN.{getD}
-use Rattle.window.specs.Refusals.{Refusal, beyond, packetTooLong, unfit, unsound}
-use Rattle.window.specs.Parse.{Result, value, refusal}
-use Rattle.cursor.proofs.Determined.{determined}
-use Rattle.reading.specs.declared.PacketError.{PacketError}
-use Rattle.reading.specs.declared.Bunch.{Bunch}
-use Rattle.reading.specs.declared.BunchRead.{BunchRead}
-use Rattle.reading.specs.declared.Reader.{Reader}
+use Rattle.bitio_window.specs.Refusals.{Refusal, beyond, packetTooLong, unfit, unsound}
+use Rattle.bitio_window.specs.Parse.{Result, value, refusal}
+use Rattle.bitio.proofs.Determined.{determined}
+use Rattle.packet_reading.specs.declared.PacketError.{PacketError}
+use Rattle.packet_reading.specs.declared.Bunch.{Bunch}
+use Rattle.packet_reading.specs.declared.BunchRead.{BunchRead}
+use Rattle.packet_reading.specs.declared.RawPacketReader.{RawPacketReader}
 use Rattle.packet.specs.declared.Opened.{Opened}
-use Rattle.reading.specs.Packet as P
-use Rattle.reading.specs.Memory.{Memory}
-use Rattle.reading.specs.Answers.{packetPaper, Reply, bunchAnswer, ofRead}
-use Rattle.packet.specs.Answers.{ofOpened}
+use Rattle.packet_reading.specs.Packet as P
+use Rattle.packet_reading.specs.Memory.{ReaderMemory}
+use Rattle.packet_reading.specs.Answers.{packetPaper, ReadReply, bunchAnswer, ofRead}
+use Rattle.packet.specs.Answers.{ofOpenedReader}
 
 -- a refusal by its number and what it returns
 unpacket : Refusal → PacketError
@@ -42,36 +42,36 @@ bunch-back Bunch.End = refl
 bunch-back Bunch.Malformed = refl
 bunch-back (Bunch.Refused e) = ap Bunch.Refused (unpacket-paper e)
 
-abbrev again : Reply → BunchRead
+abbrev again : ReadReply → BunchRead
 again x =
     record {
       answer = back (x .answer);
       next = record { 0 = x .next };
       bunches = x .bunches;
-      malformed = x .malformedPackets;
+      «malformed_packets» = x .malformedPackets;
       «partial_errors» = x .partialErrors;
-      «channel_limit» = x .channelLimits;
-      sequences = x .sequences;
-      partials = x .partials;
+      «channel_limits» = x .channelLimits;
+      «live_sequences» = x .liveSequences;
+      «live_partials» = x .livePartials;
     }
 
-read-again : (r : BunchRead) (m : Memory) → again (ofRead r m) ≡ r
+read-again : (r : BunchRead) (m : ReaderMemory) → again (ofRead r m) ≡ r
 read-again r m = rw (bunch-back (r .answer))
 
-module _ (r s : BunchRead) (m n : Memory) (e : ofRead r m ≡ ofRead s n) where
+module _ (r s : BunchRead) (m n : ReaderMemory) (e : ofRead r m ≡ ofRead s n) where
   pub read-determined : r ≡ s
   read-determined = sym (read-again r m) ∙ ap again e ∙ read-again s n
 
   pub memory-determined : m ≡ n
-  memory-determined = ap (λ (x : Reply). x .memory) e
+  memory-determined = ap (λ (x : ReadReply). x .memory) e
 
-abbrev reopened : Result Reader → Opened
+abbrev reopened : Result RawPacketReader → Opened
 reopened (value r) = Opened.Value r
 reopened (refusal e) = Opened.Refused (unpacket e)
 
-opened-again : (o : Opened) → reopened (ofOpened o) ≡ o
+opened-again : (o : Opened) → reopened (ofOpenedReader o) ≡ o
 opened-again (Opened.Value r) = refl
 opened-again (Opened.Refused e) = ap Opened.Refused (unpacket-paper e)
 
-pub opened-determined : (o q : Opened) → ofOpened o ≡ ofOpened q → o ≡ q
-opened-determined = determined ofOpened reopened opened-again
+pub opened-determined : (o q : Opened) → ofOpenedReader o ≡ ofOpenedReader q → o ≡ q
+opened-determined = determined ofOpenedReader reopened opened-again

@@ -8,8 +8,8 @@ use borrow.Author.Tests.{leb-true}
 use Rattle.tables.specs.Columns.{ascending}
 use Rattle.tables.proofs.Ascending.{both}
 use Rattle.types.specs.Types.{mostChannels}
-use Rattle.reading.specs.Memory.{Memory, fitting, fit, sound}
-use Rattle.reading.specs.State.{State}
+use Rattle.packet_reading.specs.Memory.{ReaderMemory, tablesFitting, tablesFit, tablesSound}
+use Rattle.packet_reading.specs.State.{TablesSound}
 
 pub record Rooms (limit a b c d e : ℕ) : Type 0 where
   pub few : limit ≤ mostChannels
@@ -19,7 +19,7 @@ pub record Rooms (limit a b c d e : ℕ) : Type 0 where
   pub fourth : limit ≤ d
   pub fifth : limit ≤ e
 
-pub rooms : (limit a b c d e : ℕ) → fitting limit a b c d e ≡ true → Rooms limit a b c d e
+pub rooms : (limit a b c d e : ℕ) → tablesFitting limit a b c d e ≡ true → Rooms limit a b c d e
 rooms limit a b c d e h =
     let v = both _ (leb limit e) h in
     let w = both _ (leb limit d) (v .0) in
@@ -41,14 +41,14 @@ pub record Live (limit s p a b c d e : ℕ) : Type 0 where
   pub sequences : s ≤ limit
   pub partials : p ≤ limit
 
-pub lives : (limit s p a b c d e : ℕ) → (fitting limit a b c d e && leb s limit && leb p limit) ≡ true → Live limit s p a b c d e
+pub lives : (limit s p a b c d e : ℕ) → (tablesFitting limit a b c d e && leb s limit && leb p limit) ≡ true → Live limit s p a b c d e
 lives limit s p a b c d e h =
     let v = both _ (leb p limit) h in
     let w = both _ (leb s limit) (v .0) in
     record { rooms = rooms limit a b c d e (w .0); sequences = leb-true s limit (w .1); partials = leb-true p limit (v .1) }
 
-pub state : (limit s p : ℕ) (m : Memory) → sound limit s p m ≡ true → State limit s p m
-unfolding sound fit
+pub state : (limit s p : ℕ) (m : ReaderMemory) → tablesSound limit s p m ≡ true → TablesSound limit s p m
+unfolding tablesSound tablesFit
 state limit s p m h =
     let v = both _ (ascending (take s (m .sequenceChannels)) && ascending (take p (m .partialChannels))) h in
     let l = lives limit s p _ _ _ _ _ (v .0) in

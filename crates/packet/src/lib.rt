@@ -1,10 +1,10 @@
 // The packet reader, one bunch a call: vrf-net/src/packet.rs over lent tables.
-use reading::PacketError;
-use reading::Reader;
+use packet_reading::PacketError;
+use packet_reading::RawPacketReader;
 
 pub mod packets;
 
 pub enum Opened {
-    Value(Reader),
+    Value(RawPacketReader),
     Refused(PacketError),
 }

@@ -1,31 +1,32 @@
 // The public calls: opening over lent tables, and the bunch at a cursor.
 ghost use mathlib.Core.Path.{_≡_};
 ghost use lib.Dec.{leb, ltb};
-ghost use lib.ListN.{length};
 ghost use Rattle.types.specs.Types.{mostChannels};
-ghost use Rattle.reading.specs.Memory.{Memory, memory, fitting, fit, sound};
-ghost use Rattle.reading.specs.Answers.{ofRead, packetPaper};
-ghost use Rattle.packet.specs.Answers.{ofOpened, opened, readBunch, refuses};
+ghost use Rattle.packet_reading.specs.Memory.{ReaderMemory, readerMemory, tablesFitting, readerSound};
+ghost use Rattle.packet_reading.specs.Answers.{ofRead, packetPaper};
+ghost use Rattle.packet.specs.Answers.{ofOpenedReader, openedReader, readBunch, readRefuses};
 use crate::Opened;
-use bits::inner::signed;
-use reading::Bunch;
-use reading::BunchRead;
-use reading::PacketError;
-use reading::Reader;
-use reading::inner::bunch;
-use reading::inner::read;
+use bitio_bits::inner::signed;
+use bitio_window::PacketBit;
+use packet_reading::Bunch;
+use packet_reading::BunchRead;
+use packet_reading::PacketError;
+use packet_reading::RawPacketReader;
+use packet_reading::inner::bunch;
+use packet_reading::inner::read;
 use tables::inner;
-use window::PacketBit;
+use types::MAX_ACTIVE_CHANNELS;
+use types::MAX_PACKET_BYTES;
 
 // A limit on the reader itself, whatever room is lent.
 fn in_limit(limit: usize) -> bool
     ensures { λ r. ⌜ r ≡ leb limit mostChannels ⌝ }
 {
-    limit <= 4096
+    limit <= MAX_ACTIVE_CHANNELS
 }
 
 fn fitting(limit: usize, a: usize, b: usize, c: usize, d: usize, e: usize) -> bool
-    ensures { λ r. ⌜ r ≡ fitting limit a b c d e ⌝ }
+    ensures { λ r. ⌜ r ≡ tablesFitting limit a b c d e ⌝ }
 {
     in_limit(limit) & (limit <= a) & (limit <= b) & (limit <= c) & (limit <= d) & (limit <= e)
 }
@@ -39,7 +40,11 @@ pub fn with_max_channels(
     partial_sequences: &[u32],
     partial_reliables: &[u32],
 ) -> Opened
-    ensures { λ r. ⌜ ofOpened r ≡ opened «max_channels» (memory (now («sequence_channels» .entry)) (now («sequence_numbers» .entry)) (now («partial_channels» .entry)) (now («partial_sequences» .entry)) (now («partial_reliables» .entry))) ⌝ }
+    ensures { λ r. ⌜ (
+        let before = readerMemory (now («sequence_channels» .entry)) (now («sequence_numbers» .entry))
+        (now («partial_channels» .entry)) (now («partial_sequences» .entry)) (now («partial_reliables» .entry)) in
+        ofOpenedReader r ≡ openedReader «max_channels» before
+        ) ⌝ }
 {
     if fitting(
         max_channels,
@@ -49,10 +54,10 @@ pub fn with_max_channels(
         partial_sequences.len(),
         partial_reliables.len(),
     ) {
-        return Opened::Value(Reader {
+        return Opened::Value(RawPacketReader {
             max_channels,
-            sequences: 0,
-            partials: 0,
+            live_sequences: 0,
+            live_partials: 0,
         });
     }
     Opened::Refused(PacketError::Unfit)
@@ -60,14 +65,18 @@ pub fn with_max_channels(
 
 // One pass over the channels of each table.
 fn sound(
-    reader: Reader,
+    reader: RawPacketReader,
     sequence_channels: &[u32],
     sequence_numbers: &[u32],
     partial_channels: &[u32],
     partial_sequences: &[u32],
     partial_reliables: &[u32],
 ) -> bool
-    ensures { λ r. ⌜ r ≡ sound (reader .«max_channels») (reader .sequences) (reader .partials) (memory (now («sequence_channels» .entry)) (now («sequence_numbers» .entry)) (now («partial_channels» .entry)) (now («partial_sequences» .entry)) (now («partial_reliables» .entry))) ⌝ }
+    ensures { λ r. ⌜ (
+        let before = readerMemory (now («sequence_channels» .entry)) (now («sequence_numbers» .entry))
+        (now («partial_channels» .entry)) (now («partial_sequences» .entry)) (now («partial_reliables» .entry)) in
+        r ≡ readerSound reader before
+        ) ⌝ }
 {
     let limit = reader.max_channels;
     let fit = fitting(
@@ -78,26 +87,26 @@ fn sound(
         partial_sequences.len(),
         partial_reliables.len(),
     );
-    if fit & (reader.sequences <= limit) & (reader.partials <= limit) {
-        let sequences = inner::ascending(sequence_channels, reader.sequences);
-        let partials = inner::ascending(partial_channels, reader.partials);
+    if fit & (reader.live_sequences <= limit) & (reader.live_partials <= limit) {
+        let sequences = inner::ascending(sequence_channels, reader.live_sequences);
+        let partials = inner::ascending(partial_channels, reader.live_partials);
         return sequences & partials;
     }
     false
 }
 
-fn refused(e: PacketError, at: PacketBit, reader: Reader) -> BunchRead
-    ensures { λ r. ⌜ ((m : Memory) → ofRead r m ≡ refuses (packetPaper e) (at .0) reader m) ⌝ }
+fn refused(e: PacketError, at: PacketBit, reader: RawPacketReader) -> BunchRead
+    ensures { λ r. ⌜ ((m : ReaderMemory) → ofRead r m ≡ readRefuses (packetPaper e) (at .0) reader m) ⌝ }
 {
     BunchRead {
         answer: Bunch::Refused(e),
         next: at,
         bunches: 0,
-        malformed: 0,
+        malformed_packets: 0,
         partial_errors: 0,
-        channel_limit: 0,
-        sequences: reader.sequences,
-        partials: reader.partials,
+        channel_limits: 0,
+        live_sequences: reader.live_sequences,
+        live_partials: reader.live_partials,
     }
 }
 
@@ -113,14 +122,20 @@ pub fn read_bunch(
     packet: &[u8],
     packet_id: i32,
     at: PacketBit,
-    reader: Reader,
+    reader: RawPacketReader,
     sequence_channels: &mut [u32],
     sequence_numbers: &mut [u32],
     partial_channels: &mut [u32],
     partial_sequences: &mut [u32],
     partial_reliables: &mut [u32],
 ) -> BunchRead
-    ensures { λ r. ⌜ ofRead r (memory (now («sequence_channels» .exit)) (now («sequence_numbers» .exit)) (now («partial_channels» .exit)) (now («partial_sequences» .exit)) (now («partial_reliables» .exit))) ≡ readBunch (now (packet .entry)) «packet_id» (at .0) reader (memory (now («sequence_channels» .entry)) (now («sequence_numbers» .entry)) (now («partial_channels» .entry)) (now («partial_sequences» .entry)) (now («partial_reliables» .entry))) ⌝ }
+    ensures { λ r. ⌜ (
+        let before = readerMemory (now («sequence_channels» .entry)) (now («sequence_numbers» .entry))
+        (now («partial_channels» .entry)) (now («partial_sequences» .entry)) (now («partial_reliables» .entry)) in
+        let after = readerMemory (now («sequence_channels» .exit)) (now («sequence_numbers» .exit))
+        (now («partial_channels» .exit)) (now («partial_sequences» .exit)) (now («partial_reliables» .exit)) in
+        ofRead r after ≡ readBunch (now (packet .entry)) «packet_id» (at .0) reader before
+        ) ⌝ }
 {
     if !sound(
         reader,
@@ -133,7 +148,7 @@ pub fn read_bunch(
         return refused(PacketError::Unsound, at, reader);
     }
     let size = packet.len();
-    if size > 65535 {
+    if size > MAX_PACKET_BYTES {
         return refused(
             PacketError::PacketTooLong {
                 length: size as u64,

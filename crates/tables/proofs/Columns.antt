@@ -1,11 +1,11 @@
 -- Laws of columns: what is laid is read back; insertion, removal and replacement keep step in columns that stand side by side.
-use mathlib.Core.Path.{_≡_, refl, sym, ap, _∙_}
+use mathlib.Core.Path.{_≡_, refl, sym, ap}
 use mathlib.Core.List.{List, [], _∷_, map}
 use Prim.Native.Nat.{ℕ, zero, suc, _≤_, _<_}
 use native.Mathlib.Nat.{not-suc-le-zero, le-of-suc-le-suc}
 use native.Mathlib.Omega.{arith}
 use lib.ListN.{length, getD, set, take, drop}
-use lib.Seq.{length-take-le, take-append-seam, drop-append-seam}
+use lib.Seq.{take-append-seam, drop-append-seam}
 use Rattle.tables.specs.Columns.{laid, insertedAt, removedAt, beside}
 
 module _ {A : Type 0} where
@@ -47,23 +47,6 @@ module _ {A : Type 0} where
   length-removed i [] h = absurd (not-suc-le-zero h)
   length-removed zero (y ∷ l) h = refl
   length-removed (suc i) (y ∷ l) h = ap suc (length-removed i l (le-of-suc-le-suc h))
-
--- a column after an edit: its length, and what its live places hold
-module _ {A : Type 0} (live i : ℕ) (m : List A) (fits : live ≤ length m) where
-  live-inserted : (x : A) → i ≤ live → length (insertedAt i x (take live m)) ≡ suc live
-  live-inserted x h = let e : length (take live m) ≡ live = length-take-le live m fits in length-inserted i x (take live m) (omega arith) ∙ ap suc e
-
-  live-removed : i < live → suc (length (removedAt i (take live m))) ≡ live
-  live-removed h = let e : length (take live m) ≡ live = length-take-le live m fits in length-removed i (take live m) (omega arith) ∙ e
-
-  pub take-inserted : (n : ℕ) (x : A) → n ≡ suc live → i ≤ live → take n (laid (insertedAt i x (take live m)) m) ≡ insertedAt i x (take live m)
-  take-inserted n x e h =
-      ap (λ (k : ℕ). take k (laid (insertedAt i x (take live m)) m)) (e ∙ sym (live-inserted x h)) ∙ take-laid (insertedAt i x (take live m)) m
-
-  pub take-removed : (n : ℕ) → suc n ≡ live → i < live → take n (laid (removedAt i (take live m)) m) ≡ removedAt i (take live m)
-  take-removed n e h =
-      let f : n ≡ length (removedAt i (take live m)) = omega (arith, live-removed h) in
-      ap (λ (k : ℕ). take k (laid (removedAt i (take live m)) m)) f ∙ take-laid (removedAt i (take live m)) m
 
 module _ {A B : Type 0} where
   pub inserted-map : (f : A → B) (i : ℕ) (x : A) (l : List A) → map f (insertedAt i x l) ≡ insertedAt i (f x) (map f l)
@@ -109,13 +92,6 @@ module _ {A B : Type 0} where
   set-beside (suc i) a b (x ∷ l) [] = refl
   set-beside zero a b (x ∷ l) (y ∷ k) = refl
   set-beside (suc i) a b (x ∷ l) (y ∷ k) = ap (λ (t : List (A × B)). (x, y) ∷ t) (set-beside i a b l k)
-
-  pub take-beside : (n : ℕ) (l : List A) (k : List B) → take n (beside l k) ≡ beside (take n l) (take n k)
-  unfolding beside
-  take-beside zero l k = refl
-  take-beside (suc n) [] k = refl
-  take-beside (suc n) (x ∷ l) [] = refl
-  take-beside (suc n) (x ∷ l) (y ∷ k) = ap (λ (t : List (A × B)). (x, y) ∷ t) (take-beside n l k)
 
   pub length-beside : (l : List A) (k : List B) → length l ≡ length k → length (beside l k) ≡ length l
   unfolding beside

@@ -13,7 +13,7 @@ use Rattle.tables.specs.Columns.{insertedAt, removedAt, beside, above, a
 use Rattle.tables.specs.Tables.{Table, none, found, get, without, put, channels, entries, further, slotOf}
 use Rattle.tables.proofs.Ascending.{ascending-rest}
 use Rattle.tables.proofs.Columns.{beside-first}
-use Rattle.tables.proofs.Puts.{get-past, without-none, put-past, get-over, without-over, put-over, get-on, without-on, put-on, put-ascends, without-ascends}
+use Rattle.tables.proofs.Puts.{get-past, without-none, put-past, get-over, without-over, put-over, get-on, without-on, put-on}
 
 -- c stands at place i, all before it below
 data Stands (c : ℕ) : List ℕ → ℕ → Type 0 where
@@ -128,11 +128,6 @@ module _ (c i : ℕ) (cs : List ℕ) (slot : slotOf c cs ≡ Slot.At i) where
       pub at-without : without c (entries cs vs) ≡ entries (removedAt i cs) (removedAt i vs)
       at-without = stands-without vs stands sizes ascends
 
-  pub removed-ascends : ascending cs ≡ true → ascending (removedAt i cs) ≡ true
-  removed-ascends ascends =
-      let e : channels (without c (entries cs cs)) ≡ removedAt i cs = rw (at-without cs refl ascends) (beside-first (removedAt i cs) (removedAt i cs) refl) in
-      rw e at (without-ascends c (entries cs cs) (rw (beside-first cs cs refl) ascends))
-
 -- no channel: c would go to place i of cs
 module _ (c i : ℕ) (cs : List ℕ) (slot : slotOf c cs ≡ Slot.Free i) where
   lacks : Lacks c cs i
@@ -150,11 +145,6 @@ module _ (c i : ℕ) (cs : List ℕ) (slot : slotOf c cs ≡ Slot.Free i) where
 
     pub free-without : without c (entries cs vs) ≡ entries cs vs
     free-without = without-none c (entries cs vs) free-get
-
-  pub inserted-ascends : ascending cs ≡ true → ascending (insertedAt i c cs) ≡ true
-  inserted-ascends ascends =
-      let e : channels (put c c (entries cs cs)) ≡ insertedAt i c cs = rw (free-put cs refl ascends c) (beside-first (insertedAt i c cs) (insertedAt i c cs) refl) in
-      rw e at (put-ascends c c (entries cs cs) (rw (beside-first cs cs refl) ascends))
 
 -- the same of a column's live places
 module _ (c i live : ℕ) (m : List ℕ) (fits : live ≤ length m) where

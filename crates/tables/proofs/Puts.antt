@@ -8,7 +8,7 @@ use lib.Dec.{eqb, ltb}
 use lib.ListN.{length}
 use borrow.Author.Tests.{eqb-true, eqb-false, eq-eqb, ne-eqb, ltb-true, ltb-false, lt-ltb, le-ltb}
 use Rattle.tables.specs.Columns.{above, ascending}
-use Rattle.tables.specs.Tables.{Table, Found, none, found, get, without, added, put, channels}
+use Rattle.tables.specs.Tables.{Table, Found, none, found, get, without, addedChannel, put, channels}
 use Rattle.tables.proofs.Ascending.{above-rest, above-less, ascending-rest}
 
 after : (c d : ℕ) → eqb c d ≡ false → ltb d c ≡ false → c < d
@@ -36,21 +36,21 @@ module _ {A : Type 0} where
       go true e ih = let f : eqb d (x .0) ≡ false = ne-eqb d (x .0) (λ q. n (q ∙ sym (eqb-true c (x .0) e))) in rw f ih
       go false e ih = rw ih
 
-  get-added-same : (c : ℕ) (v : A) (t : Table A) → get c (added c v t) ≡ found v
-  unfolding get added
+  get-added-same : (c : ℕ) (v : A) (t : Table A) → get c (addedChannel c v t) ≡ found v
+  unfolding get addedChannel
   get-added-same c v [] = rw (eq-eqb c c refl) refl
   get-added-same c v (x ∷ t) = go (ltb (x .0) c) refl (get-added-same c v t)
     where
-      go : (b : Bool) → ltb (x .0) c ≡ b → get c (added c v t) ≡ found v → get c (cond b (x ∷ added c v t) ((c, v) ∷ (x ∷ t))) ≡ found v
+      go : (b : Bool) → ltb (x .0) c ≡ b → get c (addedChannel c v t) ≡ found v → get c (cond b (x ∷ addedChannel c v t) ((c, v) ∷ (x ∷ t))) ≡ found v
       go true e ih = let f : eqb c (x .0) ≡ false = ne-eqb c (x .0) (λ q. omega (arith, ltb-true (x .0) c e)) in rw f ih
       go false e ih = rw (eq-eqb c c refl) refl
 
-  get-added-other : (d c : ℕ) (v : A) (t : Table A) → (d ≡ c → ⊥) → get d (added c v t) ≡ get d t
-  unfolding get added
+  get-added-other : (d c : ℕ) (v : A) (t : Table A) → (d ≡ c → ⊥) → get d (addedChannel c v t) ≡ get d t
+  unfolding get addedChannel
   get-added-other d c v [] n = rw (ne-eqb d c n) refl
   get-added-other d c v (x ∷ t) n = go (ltb (x .0) c) (get-added-other d c v t n)
     where
-      go : (b : Bool) → get d (added c v t) ≡ get d t → get d (cond b (x ∷ added c v t) ((c, v) ∷ (x ∷ t))) ≡ get d (x ∷ t)
+      go : (b : Bool) → get d (addedChannel c v t) ≡ get d t → get d (cond b (x ∷ addedChannel c v t) ((c, v) ∷ (x ∷ t))) ≡ get d (x ∷ t)
       go true ih = rw ih
       go false ih = rw (ne-eqb d c n) refl
 
@@ -87,8 +87,8 @@ module _ {A : Type 0} where
   pub without-past : (c : ℕ) (t : Table A) → above c (channels t) ≡ true → without c t ≡ t
   without-past c t a = without-none c t (get-past c t a)
 
-  added-past : (c : ℕ) (v : A) (t : Table A) → above c (channels t) ≡ true → added c v t ≡ (c, v) ∷ t
-  unfolding added
+  added-past : (c : ℕ) (v : A) (t : Table A) → above c (channels t) ≡ true → addedChannel c v t ≡ (c, v) ∷ t
+  unfolding addedChannel
   added-past c v [] a = refl
   added-past c v (x ∷ t) a = let p = above-rest c (x .0) (channels t) a in rw (le-ltb (x .0) c (omega (arith, p .0))) refl
 
@@ -118,25 +118,25 @@ module _ {A : Type 0} where
       go true ih = ih
       go false ih = above-without (y .0) c t a
 
-  above-added : (x c : ℕ) (v : A) (t : Table A) → x < c → get c t ≡ none → above x (channels t) ≡ true → above x (channels (added c v t)) ≡ true
-  unfolding added above
+  above-added : (x c : ℕ) (v : A) (t : Table A) → x < c → get c t ≡ none → above x (channels t) ≡ true → above x (channels (addedChannel c v t)) ≡ true
+  unfolding addedChannel above
   above-added x c v [] h n a = rw (lt-ltb x c h) refl
   above-added x c v (y ∷ t) h n a =
       let m = get-none-rest c y t n in
       let p = above-rest x (y .0) (channels t) a in
       go (ltb (y .0) c) refl (m .0) (p .0) (p .1) (λ f. above-added (y .0) c v t f (m .1) (p .1))
     where
-      go : (b : Bool) → ltb (y .0) c ≡ b → eqb c (y .0) ≡ false → x < y .0 → above (y .0) (channels t) ≡ true → (y .0 < c → above (y .0) (channels (added c v t)) ≡ true)
-          → above x (channels (cond b (y ∷ added c v t) ((c, v) ∷ (y ∷ t)))) ≡ true
+      go : (b : Bool) → ltb (y .0) c ≡ b → eqb c (y .0) ≡ false → x < y .0 → above (y .0) (channels t) ≡ true → (y .0 < c → above (y .0) (channels (addedChannel c v t)) ≡ true)
+          → above x (channels (cond b (y ∷ addedChannel c v t) ((c, v) ∷ (y ∷ t)))) ≡ true
       go true e m p q ih = rw (lt-ltb x (y .0) p) (ih (ltb-true (y .0) c e))
       go false e m p q ih = rw (lt-ltb x c h, lt-ltb c (y .0) (after c (y .0) m e)) q
 
-  added-ascends : (c : ℕ) (v : A) (t : Table A) → get c t ≡ none → ascending (channels t) ≡ true → ascending (channels (added c v t)) ≡ true
-  unfolding added ascending above
+  added-ascends : (c : ℕ) (v : A) (t : Table A) → get c t ≡ none → ascending (channels t) ≡ true → ascending (channels (addedChannel c v t)) ≡ true
+  unfolding addedChannel ascending above
   added-ascends c v [] n a = refl
   added-ascends c v (y ∷ t) n a = go (ltb (y .0) c) refl (get-none-rest c y t n)
     where
-      go : (b : Bool) → ltb (y .0) c ≡ b → (eqb c (y .0) ≡ false) × (get c t ≡ none) → ascending (channels (cond b (y ∷ added c v t) ((c, v) ∷ (y ∷ t)))) ≡ true
+      go : (b : Bool) → ltb (y .0) c ≡ b → (eqb c (y .0) ≡ false) × (get c t ≡ none) → ascending (channels (cond b (y ∷ addedChannel c v t) ((c, v) ∷ (y ∷ t)))) ≡ true
       go true e m = above-added (y .0) c v t (ltb-true (y .0) c e) (m .1) a
       go false e m = rw (lt-ltb c (y .0) (after c (y .0) (m .0) e)) a
 
@@ -145,12 +145,12 @@ module _ {A : Type 0} where
   put-ascends c v t a = added-ascends c v (without c t) (get-without-same c t) (without-ascends c t a)
 
   -- how many channels there are
-  length-added : (c : ℕ) (v : A) (t : Table A) → length (added c v t) ≡ suc (length t)
-  unfolding added
+  length-added : (c : ℕ) (v : A) (t : Table A) → length (addedChannel c v t) ≡ suc (length t)
+  unfolding addedChannel
   length-added c v [] = refl
   length-added c v (x ∷ t) = go (ltb (x .0) c) (length-added c v t)
     where
-      go : (b : Bool) → length (added c v t) ≡ suc (length t) → length (cond b (x ∷ added c v t) ((c, v) ∷ (x ∷ t))) ≡ suc (suc (length t))
+      go : (b : Bool) → length (addedChannel c v t) ≡ suc (length t) → length (cond b (x ∷ addedChannel c v t) ((c, v) ∷ (x ∷ t))) ≡ suc (suc (length t))
       go true ih = ap suc ih
       go false ih = refl
 
@@ -182,7 +182,7 @@ module _ {A : Type 0} where
   without-over c x t h = rw (ne-eqb c (x .0) (λ e. omega arith)) refl
 
   pub put-over : (c : ℕ) (v : A) (x : ℕ × A) (t : Table A) → x .0 < c → put c v (x ∷ t) ≡ x ∷ put c v t
-  unfolding put added
+  unfolding put addedChannel
   put-over c v x t h = rw (without-over c x t h, lt-ltb (x .0) c h) refl
 
   pub get-on : (c : ℕ) (x : ℕ × A) (t : Table A) → x .0 ≡ c → get c (x ∷ t) ≡ found (x .1)

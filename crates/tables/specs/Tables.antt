@@ -25,13 +25,13 @@ module _ {A : Type 0} where
   without c (e ∷ t) = cond (eqb c (e .0)) (without c t) (e ∷ without c t)
 
   -- in its place, of a channel that is not there
-  unfoldable pub added : ℕ → A → Table A → Table A
-  added c v [] = (c, v) ∷ []
-  added c v (e ∷ t) = cond (ltb (e .0) c) (e ∷ added c v t) ((c, v) ∷ (e ∷ t))
+  unfoldable pub addedChannel : ℕ → A → Table A → Table A
+  addedChannel c v [] = (c, v) ∷ []
+  addedChannel c v (e ∷ t) = cond (ltb (e .0) c) (e ∷ addedChannel c v t) ((c, v) ∷ (e ∷ t))
 
   -- the Rust's `insert`, which replaces what the channel has
   unfoldable pub put : ℕ → A → Table A → Table A
-  put c v t = added c v (without c t)
+  put c v t = addedChannel c v (without c t)
 
   abbrev pub channels : Table A → List ℕ
   channels t = map (λ (e : ℕ × A). e .0) t

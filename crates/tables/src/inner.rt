@@ -1,12 +1,14 @@
 // Edits of one column, and the search of a channel in its column.
 ghost use mathlib.Core.Path.{_≡_};
 ghost use mathlib.Core.Bool.{true};
-ghost use Prim.Native.Nat.{_+_, _-_, _≤_, _<_, min};
+ghost use Prim.Native.Nat.{_+_, _-_, _≤_, _<_};
 ghost use lib.ListN.{length, take};
+ghost use Rattle.types.specs.Types.{mostChannels};
 ghost use Rattle.tables.specs.Columns.{laid, insertedAt, removedAt, ascending};
 ghost use Rattle.tables.specs.Search.{Rising, Near};
 ghost use Rattle.tables.specs.Tables.{slotOf};
 use crate::Slot;
+use bitio_bits::inner::arithmetic::least;
 
 // No way out in the loop, so that it is vector code.
 pub fn ascending(channels: &[u32], live: usize) -> bool
@@ -22,15 +24,11 @@ pub fn ascending(channels: &[u32], live: usize) -> bool
     ok
 }
 
-fn least(a: usize, b: usize) -> usize
-    ensures { λ r. ⌜ r ≡ min a b ⌝ }
-{
-    if a < b { a } else { b }
-}
-
 // One halving. It looks at one place and chooses between two numbers: no branch for the processor to guess.
 fn step(channels: &[u32], live: usize, base: usize, half: usize, channel: u32) -> usize
-    requires { ⌜ Rising (now channels) live × (0 < live) × (0 < half) × (half ≤ 2048) × Near (now channels) live channel base (half + half) ⌝ }
+    requires { ⌜
+        Rising (now channels) live × (0 < live) × (0 < half) × (half ≤ 2048) × Near (now channels) live channel base (half + half)
+        ⌝ }
     ensures { λ r. ⌜ Near (now (channels .entry)) live channel r half ⌝ }
 {
     let next = least(base + half, live);
@@ -113,7 +111,7 @@ fn below(channels: &[u32], live: usize, channel: u32) -> usize
 }
 
 pub fn find(channels: &[u32], live: usize, channel: u32) -> Slot
-    requires { ⌜ (live ≤ length (now channels)) × (live ≤ 4096) × (ascending (take live (now channels)) ≡ true) ⌝ }
+    requires { ⌜ (live ≤ length (now channels)) × (live ≤ mostChannels) × (ascending (take live (now channels)) ≡ true) ⌝ }
     ensures { λ r. ⌜ r ≡ slotOf channel (take live (now (channels .entry))) ⌝ }
 {
     let i = below(channels, live, channel);

@@ -5,18 +5,18 @@ use Prim.Native.Nat.{ℕ, _+_, _*_, _-_, _≤_, _<_}
 use lib.Dec.{ltb}
 use lib.ListN.{length}
 use borrow.Author.Tests.{lt-ltb, le-ltb, ltb-false}
-use Rattle.window.specs.declared.Window.{Window}
-use Rattle.window.specs.declared.BitError.{BitError}
-use Rattle.window.specs.declared.Done.{Done}
-use Rattle.window.specs.Refusals.{placeOf, paper, tooFewBits, beyond}
-use Rattle.window.specs.Parse.{Answer, got, refused, _>>_, give, refuseIf, advanced}
-use Rattle.window.specs.Reads.{sound, need, passed, skip}
-use Rattle.window.specs.Copies.{copyBits}
-use Rattle.window.specs.Answers.{doneAnswer}
-use Rattle.window.specs.Sound.{Sound}
-use Rattle.window.proofs.Rows.{next-got, next-refused, refuses, lets-on, ahead}
-use Rattle.cursor.proofs.Tests.{stopped}
-use Rattle.window.proofs.Steps.{skip-there, sound-past}
+use Rattle.bitio_window.specs.declared.Window.{Window}
+use Rattle.bitio_window.specs.declared.BitError.{BitError}
+use Rattle.bitio_window.specs.declared.Done.{Done}
+use Rattle.bitio_window.specs.Refusals.{placeOf, paper, tooFewBits, beyond}
+use Rattle.bitio_window.specs.Parse.{Answer, got, refused, _>>_, give, refuseIf, advanced}
+use Rattle.bitio_window.specs.Reads.{sound, need, passed, skip}
+use Rattle.bitio_window.specs.Copies.{copyBits}
+use Rattle.bitio_window.specs.Answers.{doneAnswer}
+use Rattle.bitio_window.specs.Sound.{Sound}
+use Rattle.bitio_window.proofs.Rows.{next-got, next-refused, refuses, lets-on, ahead}
+use Rattle.bitio.proofs.Tests.{stopped}
+use Rattle.bitio_window.proofs.Steps.{skip-there, sound-past}
 use Rattle.timing.specs.Sums.{Made, oneMore, copyOver}
 use Rattle.timing.proofs.Laws.{already}
 

@@ -6,17 +6,17 @@ use native.Mathlib.Nat.{sub-zero}
 use native.Mathlib.Omega.{arith}
 use lib.Dec.{ltb, eqb}
 use borrow.Author.Tests.{lt-ltb, le-ltb, eq-eqb, ne-eqb}
-use Rattle.window.specs.declared.Window.{Window}
-use Rattle.window.specs.declared.BitError.{BitError}
-use Rattle.window.specs.declared.Done.{Done}
-use Rattle.window.specs.Refusals.{Refusal, tooWide, zeroMaximum}
-use Rattle.window.specs.Parse.{got, refused, Parse, _>>_, give, refuseIf}
-use Rattle.window.specs.Reads.{sound, bit, bits, readBit, readBits}
-use Rattle.numbers.specs.Reads.{packed, serialized, readPacked, readSerialized}
-use Rattle.window.specs.Answers.{doneAnswer}
-use Rattle.window.specs.Sound.{Sound}
-use Rattle.window.proofs.Rows.{then-got, then-refused, next-got, refuses, lets-on}
-use Rattle.cursor.proofs.Tests.{fine, stopped}
+use Rattle.bitio_window.specs.declared.Window.{Window}
+use Rattle.bitio_window.specs.declared.BitError.{BitError}
+use Rattle.bitio_window.specs.declared.Done.{Done}
+use Rattle.bitio_window.specs.Refusals.{Refusal, tooWide, zeroMaximum}
+use Rattle.bitio_window.specs.Parse.{got, refused, Parse, _>>_, give, refuseIf}
+use Rattle.bitio_window.specs.Reads.{sound, bit, bits, readBit, readBits}
+use Rattle.bitio_window.specs.Numbers.{packed, serialized, readPacked, readSerialized}
+use Rattle.bitio_window.specs.Answers.{doneAnswer}
+use Rattle.bitio_window.specs.Sound.{Sound}
+use Rattle.bitio_window.proofs.Rows.{then-got, then-refused, next-got, refuses, lets-on}
+use Rattle.bitio.proofs.Tests.{fine, stopped}
 use Rattle.timing.specs.Sums.{calls, plus}
 
 -- after k of n calls, with the state and the window that they left

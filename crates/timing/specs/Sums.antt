@@ -3,14 +3,11 @@ use Prim.Native.Nat.{ℕ, zero, suc, _+_, _%_, _^_}
 use mathlib.Core.List.{List}
 use lib.ListN.{length, getD}
 use mir.Val.{boolByte}
-use Rattle.window.specs.declared.Window.{Window}
-use Rattle.window.specs.Parse.{Answer, got, refused, Parse, _>>=_, _>>_, give}
-use Rattle.window.specs.Reads.{readBit, readBits}
-use Rattle.numbers.specs.Reads.{readPacked, readSerialized}
-use Rattle.window.specs.Copies.{copied, copyBits}
-
-abbrev pub window : ℕ → ℕ → ℕ → Window
-window start position length = record { start = record { 0 = start }; position = record { 0 = position }; length = length }
+use Rattle.bitio_window.specs.declared.Window.{Window}
+use Rattle.bitio_window.specs.Parse.{Answer, got, refused, Parse, _>>=_, _>>_, give}
+use Rattle.bitio_window.specs.Reads.{readBit, readBits}
+use Rattle.bitio_window.specs.Numbers.{readPacked, readSerialized}
+use Rattle.bitio_window.specs.Copies.{copied, copyBits}
 
 -- what a call makes of the state goes on; a refusal leaves the state as it was before the call, and ends the row
 abbrev pub orElse : {S : Type 0} → Answer S → S → (S → Window → S) → S

@@ -1,16 +1,17 @@
 // Many reads in one call, for bench/ to time: the window is tested and the mask table made once, as the project's own crates do it.
 ghost use mathlib.Core.Path.{_≡_};
-ghost use Rattle.timing.specs.Sums.{window, bitSum, bitsSum, packedSum, serializedSum, copiesMade};
-use bits::inner::masks;
-use cursor::windows;
-use window::Bit;
-use window::Done;
-use window::PacketBit;
-use window::U32;
-use window::U64;
-use window::Window;
-use window::WindowBit;
-use window::inner::copy;
+ghost use Rattle.bitio_window.specs.Windows.{windowAt};
+ghost use Rattle.timing.specs.Sums.{bitSum, bitsSum, packedSum, serializedSum, copiesMade};
+use bitio::windows;
+use bitio_bits::inner::masks;
+use bitio_window::Bit;
+use bitio_window::Done;
+use bitio_window::PacketBit;
+use bitio_window::U32;
+use bitio_window::U64;
+use bitio_window::Window;
+use bitio_window::WindowBit;
+use bitio_window::inner::copy;
 
 #[no_mangle]
 pub extern "C" fn timing_read_bit(
@@ -20,7 +21,7 @@ pub extern "C" fn timing_read_bit(
     length: u64,
     n: u64,
 ) -> u64
-    ensures { λ r. ⌜ r ≡ bitSum n (now (bytes .entry)) (window start position length) ⌝ }
+    ensures { λ r. ⌜ r ≡ bitSum n (now (bytes .entry)) (windowAt start position length) ⌝ }
 {
     let mut w = Window {
         start: PacketBit(start),
@@ -33,7 +34,7 @@ pub extern "C" fn timing_read_bit(
             let mut sum: u64 = 0;
             let mut k: u64 = 0;
             while k < n {
-                let read = window::inner::bit(bytes, w);
+                let read = bitio_window::inner::bit(bytes, w);
                 let answer = read.answer;
                 match answer {
                     Bit::Refused(_) => {
@@ -59,7 +60,7 @@ pub extern "C" fn timing_read_bits(
     length: u64,
     widths: &[u32],
 ) -> u64
-    ensures { λ r. ⌜ r ≡ bitsSum (now (widths .entry)) (now (bytes .entry)) (window start position length) ⌝ }
+    ensures { λ r. ⌜ r ≡ bitsSum (now (widths .entry)) (now (bytes .entry)) (windowAt start position length) ⌝ }
 {
     let mut w = Window {
         start: PacketBit(start),
@@ -77,7 +78,7 @@ pub extern "C" fn timing_read_bits(
                 if width > 64 {
                     return sum;
                 }
-                let read = window::inner::bits(bytes, &masks, w, width);
+                let read = bitio_window::inner::bits(bytes, &masks, w, width);
                 let answer = read.answer;
                 match answer {
                     U64::Refused(_) => {
@@ -103,7 +104,7 @@ pub extern "C" fn timing_read_int_packed(
     length: u64,
     n: u64,
 ) -> u64
-    ensures { λ r. ⌜ r ≡ packedSum n (now (bytes .entry)) (window start position length) ⌝ }
+    ensures { λ r. ⌜ r ≡ packedSum n (now (bytes .entry)) (windowAt start position length) ⌝ }
 {
     let mut w = Window {
         start: PacketBit(start),
@@ -116,7 +117,7 @@ pub extern "C" fn timing_read_int_packed(
             let mut sum: u64 = 0;
             let mut k: u64 = 0;
             while k < n {
-                let read = numbers::inner::packed(bytes, w);
+                let read = bitio_window::inner::numbers::packed(bytes, w);
                 let answer = read.answer;
                 match answer {
                     U32::Refused(_) => {
@@ -142,7 +143,7 @@ pub extern "C" fn timing_read_serialized_int(
     length: u64,
     maxima: &[u32],
 ) -> u64
-    ensures { λ r. ⌜ r ≡ serializedSum (now (maxima .entry)) (now (bytes .entry)) (window start position length) ⌝ }
+    ensures { λ r. ⌜ r ≡ serializedSum (now (maxima .entry)) (now (bytes .entry)) (windowAt start position length) ⌝ }
 {
     let mut w = Window {
         start: PacketBit(start),
@@ -159,7 +160,7 @@ pub extern "C" fn timing_read_serialized_int(
                 if max == 0 {
                     return sum;
                 }
-                let read = numbers::inner::serialized(bytes, w, max);
+                let read = bitio_window::inner::numbers::serialized(bytes, w, max);
                 let answer = read.answer;
                 match answer {
                     U32::Refused(_) => {
@@ -186,7 +187,10 @@ pub extern "C" fn timing_copy(
     counts: &[u64],
     target: &mut [u8],
 ) -> u64
-    ensures { λ r. ⌜ record { number = r; target = now (target .exit) } ≡ copiesMade (now (counts .entry)) (now (target .entry)) (now (bytes .entry)) (window start position length) ⌝ }
+    ensures { λ r. ⌜
+        record { number = r; target = now (target .exit) }
+        ≡ copiesMade (now (counts .entry)) (now (target .entry)) (now (bytes .entry)) (windowAt start position length)
+        ⌝ }
 {
     let mut w = Window {
         start: PacketBit(start),
@@ -206,7 +210,7 @@ pub extern "C" fn timing_copy(
                 }
                 let start = w.start;
                 let position = w.position;
-                let read = window::inner::skip(w, count);
+                let read = bitio_window::inner::skip(w, count);
                 let answer = read.answer;
                 match answer {
                     Done::Refused(_) => {

@@ -4,10 +4,10 @@ use mathlib.Core.List.{List}
 use Prim.Native.Nat.{ℕ, suc, _+_, _-_, _%_, _^_, _≤_, _<_}
 use native.Mathlib.Nat.{sub-zero}
 use native.Mathlib.Omega.{arith}
-use Rattle.window.specs.declared.Window.{Window}
-use Rattle.window.specs.Refusals.{Refusal}
-use Rattle.window.specs.Parse.{got, refused, Parse, give}
-use Rattle.window.proofs.Rows.{then-got, then-refused}
+use Rattle.bitio_window.specs.declared.Window.{Window}
+use Rattle.bitio_window.specs.Refusals.{Refusal}
+use Rattle.bitio_window.specs.Parse.{got, refused, Parse, give}
+use Rattle.bitio_window.proofs.Rows.{then-got, then-refused}
 use Rattle.timing.specs.Sums.{calls, plus}
 
 -- after k of n reads, with the sum and the window that they left

@@ -1,13 +1,15 @@
-// Many reads in one call, for bench/ to time: through `bitio`'s public calls, and through the reader that keeps its slice. Both promise what crates/timing promises.
+// Many reads in one call, for bench/ to time: through `bitio`'s public calls, and through the reader that keeps its slice. Both
+// promise what crates/timing promises.
 ghost use mathlib.Core.Path.{_≡_};
-ghost use Rattle.timing.specs.Sums.{window, bitsSum, packedSum};
+ghost use Rattle.bitio_window.specs.Windows.{windowAt};
+ghost use Rattle.timing.specs.Sums.{bitsSum, packedSum};
 use bitio::reads;
-use reader::plain;
-use window::PacketBit;
-use window::U32;
-use window::U64;
-use window::Window;
-use window::WindowBit;
+use bitio_reader::plain;
+use bitio_window::PacketBit;
+use bitio_window::U32;
+use bitio_window::U64;
+use bitio_window::Window;
+use bitio_window::WindowBit;
 
 #[no_mangle]
 pub extern "C" fn timing_public_read_bits(
@@ -17,7 +19,7 @@ pub extern "C" fn timing_public_read_bits(
     length: u64,
     widths: &[u32],
 ) -> u64
-    ensures { λ r. ⌜ r ≡ bitsSum (now (widths .entry)) (now (bytes .entry)) (window start position length) ⌝ }
+    ensures { λ r. ⌜ r ≡ bitsSum (now (widths .entry)) (now (bytes .entry)) (windowAt start position length) ⌝ }
 {
     let mut w = Window {
         start: PacketBit(start),
@@ -51,7 +53,7 @@ pub extern "C" fn timing_reader_read_bits(
     length: u64,
     widths: &[u32],
 ) -> u64
-    ensures { λ r. ⌜ r ≡ bitsSum (now (widths .entry)) (now (bytes .entry)) (window start position length) ⌝ }
+    ensures { λ r. ⌜ r ≡ bitsSum (now (widths .entry)) (now (bytes .entry)) (windowAt start position length) ⌝ }
 {
     let mut w = Window {
         start: PacketBit(start),
@@ -85,7 +87,7 @@ pub extern "C" fn timing_public_read_int_packed(
     length: u64,
     n: u64,
 ) -> u64
-    ensures { λ r. ⌜ r ≡ packedSum n (now (bytes .entry)) (window start position length) ⌝ }
+    ensures { λ r. ⌜ r ≡ packedSum n (now (bytes .entry)) (windowAt start position length) ⌝ }
 {
     let mut w = Window {
         start: PacketBit(start),
@@ -119,7 +121,7 @@ pub extern "C" fn timing_reader_read_int_packed(
     length: u64,
     n: u64,
 ) -> u64
-    ensures { λ r. ⌜ r ≡ packedSum n (now (bytes .entry)) (window start position length) ⌝ }
+    ensures { λ r. ⌜ r ≡ packedSum n (now (bytes .entry)) (windowAt start position length) ⌝ }
 {
     let mut w = Window {
         start: PacketBit(start),

@@ -1,39 +1,25 @@
 -- A header comes back from its words. The weight lies in the signed fields.
 use mathlib.Core.Path.{_≡_, refl, ap, _∙_}
 use mathlib.Core.Bool.{Bool, true, false, not}
-use Prim.Native.Nat.{suc, _-_, _%_, _^_, _<_}
+use Prim.Native.Nat.{_%_, _^_}
 use native.Mathlib.Omega.{arith}
 use lib.Dec.{eqb}
-use lib.IntN.{ℤ, pos, negsuc}
+use lib.IntN.{ℤ}
 use mir.Syntax.{w32}
 use mir.Val.{SFits, ofZ, boolByte}
 use mir.ValLaws.{ofZ-fits}
-use borrow.Author.Tests.{lt-ltb, le-ltb}
-use Rattle.bits.specs.Floats.{signed}
-use Rattle.types.specs.Types.{reasonOf}
-use Rattle.types.specs.declared.ChannelCloseReason.{ChannelCloseReason}
+use Rattle.bitio_bits.specs.Floats.{signed}
+use Rattle.bitio_bits.proofs.Signed.{signed-word}
 use Rattle.types.specs.declared.PartialSequenceKind.{PartialSequenceKind}
 use Rattle.types.specs.declared.RawBunchHeader.{RawBunchHeader}
+use Rattle.types.proofs.Reasons.{reason-back}
 use Rattle.words.specs.Range.{InRange}
-use Rattle.words.specs.Words.{reasonWord, kindWord, headerWords, kindOf, headerFrom}
-
-signed-word : (z : ℤ) → SFits w32 z → signed (ofZ w32 z) ≡ z
-unfolding signed
-signed-word (pos n) f = let h : n < 2 ^ 31 = f .sfits in rw (lt-ltb n (2 ^ 31) h)
-signed-word (negsuc n) f =
-    let h : n < 2 ^ 31 = f .sfits in
-    let e : 2 ^ 32 - 1 - (2 ^ 32 - suc n) ≡ n = omega (arith, h) in
-    rw (le-ltb (2 ^ 32 - suc n) (2 ^ 31) (omega (arith, h)), e)
+use Rattle.words.specs.Words.{kindWord, headerWords, kindOf, headerFrom}
 
 signed-back : (z : ℤ) → SFits w32 z → signed (ofZ w32 z % 2 ^ 32) ≡ z
 signed-back z f =
     let e : ofZ w32 z % 2 ^ 32 ≡ ofZ w32 z = omega (arith, ofZ-fits w32 z f .fits) in
     ap signed e ∙ signed-word z f
-
-reason-back : (r : ChannelCloseReason) → reasonOf (reasonWord r) ≡ r
-unfolding reasonOf
-reason-back ChannelCloseReason.Destroyed = refl
-reason-back ChannelCloseReason.Dormancy = refl
 
 kind-back : (k : PartialSequenceKind) → kindOf (kindWord k) ≡ k
 unfolding kindOf

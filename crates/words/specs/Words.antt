@@ -6,15 +6,10 @@ use lib.Dec.{eqb}
 use lib.ListN.{getD}
 use mir.Syntax.{w32}
 use mir.Val.{ofZ, boolByte}
-use Rattle.bits.specs.Floats.{signed}
-use Rattle.types.specs.Types.{reasonOf}
-use Rattle.types.specs.declared.ChannelCloseReason.{ChannelCloseReason}
+use Rattle.bitio_bits.specs.Floats.{signed}
+use Rattle.types.specs.Types.{reasonWord, reasonOf}
 use Rattle.types.specs.declared.PartialSequenceKind.{PartialSequenceKind}
 use Rattle.types.specs.declared.RawBunchHeader.{RawBunchHeader}
-
-abbrev pub reasonWord : ChannelCloseReason → ℕ
-reasonWord ChannelCloseReason.Destroyed = 0
-reasonWord ChannelCloseReason.Dormancy = 1
 
 abbrev pub kindWord : PartialSequenceKind → ℕ
 kindWord PartialSequenceKind.None = 0
@@ -57,8 +52,8 @@ kindOf w =
     (cond (eqb w 4) PartialSequenceKind.NonByteAlignedFragment PartialSequenceKind.None)))
 
 -- a flag is any word but 0
-abbrev pub flag : List ℕ → ℕ → Bool
-flag w i = not (eqb (getD w i 0) 0)
+abbrev pub flagAt : List ℕ → ℕ → Bool
+flagAt w i = not (eqb (getD w i 0) 0)
 
 -- a field of 32 bits
 abbrev pub low : List ℕ → ℕ → ℕ
@@ -70,22 +65,22 @@ headerFrom w =
     record {
       «packet_id» = signed (low w 0);
       «ch_index» = low w 1;
-      «b_open» = flag w 2;
-      «b_close» = flag w 3;
-      «b_dormant» = flag w 4;
-      «b_is_replication_paused» = flag w 5;
-      «b_reliable» = flag w 6;
-      «b_partial» = flag w 7;
-      «b_partial_initial» = flag w 8;
-      «b_partial_final» = flag w 9;
-      «b_has_package_map_exports» = flag w 10;
-      «b_has_must_be_mapped_guids» = flag w 11;
+      «b_open» = flagAt w 2;
+      «b_close» = flagAt w 3;
+      «b_dormant» = flagAt w 4;
+      «b_is_replication_paused» = flagAt w 5;
+      «b_reliable» = flagAt w 6;
+      «b_partial» = flagAt w 7;
+      «b_partial_initial» = flagAt w 8;
+      «b_partial_final» = flagAt w 9;
+      «b_has_package_map_exports» = flagAt w 10;
+      «b_has_must_be_mapped_guids» = flagAt w 11;
       «ch_sequence» = signed (low w 12);
       «close_reason» = reasonOf (getD w 13 0);
       «payload_bit_count» = low w 14;
       «payload_bit_offset» = getD w 15 0;
-      «has_partial_error» = flag w 16;
+      «has_partial_error» = flagAt w 16;
       «partial_error_kind» = kindOf (getD w 17 0);
-      «is_partial_completed» = flag w 18;
-      «has_channel_limit_error» = flag w 19;
+      «is_partial_completed» = flagAt w 18;
+      «has_channel_limit_error» = flagAt w 19;
     }

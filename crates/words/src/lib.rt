@@ -1,24 +1,13 @@
 // A bunch's header as words, and back: so that it can stand in lent memory.
 ghost use mathlib.Core.Path.{_≡_};
-ghost use Rattle.types.specs.Types.{reasonOf};
-ghost use Rattle.words.specs.Words.{reasonWord, kindWord, headerWords, kindOf, headerFrom};
-use bits::inner::signed;
-use types::ChannelCloseReason;
+ghost use Rattle.words.specs.Words.{kindWord, headerWords, kindOf, headerFrom};
+use bitio_bits::inner::signed;
 use types::PartialSequenceKind;
 use types::RawBunchHeader;
 
 pub mod inner;
 
 pub type HeaderWords = [u64; 20];
-
-fn reason_word(r: ChannelCloseReason) -> u64
-    ensures { λ w. ⌜ w ≡ reasonWord r ⌝ }
-{
-    match r {
-        ChannelCloseReason::Destroyed => 0,
-        ChannelCloseReason::Dormancy => 1,
-    }
-}
 
 pub fn kind_word(k: PartialSequenceKind) -> u64
     ensures { λ w. ⌜ w ≡ kindWord k ⌝ }
@@ -40,7 +29,7 @@ pub fn of_header(h: RawBunchHeader) -> HeaderWords
     let bits = h.payload_bit_count as u64;
     let id = signed::to_word(h.packet_id) as u64;
     let sequence = signed::to_word(h.ch_sequence) as u64;
-    let closed = reason_word(close_reason);
+    let closed = types::to_raw(close_reason) as u64;
     let wrong = kind_word(partial_error_kind);
     [
         id,
@@ -66,15 +55,6 @@ pub fn of_header(h: RawBunchHeader) -> HeaderWords
     ]
 }
 
-fn reason_of(w: u64) -> ChannelCloseReason
-    ensures { λ r. ⌜ r ≡ reasonOf w ⌝ }
-{
-    if w == 1 {
-        return ChannelCloseReason::Dormancy;
-    }
-    ChannelCloseReason::Destroyed
-}
-
 fn kind_of(w: u64) -> PartialSequenceKind
     ensures { λ r. ⌜ r ≡ kindOf w ⌝ }
 {
@@ -98,7 +78,7 @@ pub fn header_of(w: HeaderWords) -> RawBunchHeader
 {
     let packet_id = signed::of_word((w[0] % 4294967296) as u32);
     let ch_sequence = signed::of_word((w[12] % 4294967296) as u32);
-    let close_reason = reason_of(w[13]);
+    let close_reason = types::from_raw(w[13]);
     let partial_error_kind = kind_of(w[17]);
     RawBunchHeader {
         packet_id,

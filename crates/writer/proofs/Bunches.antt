@@ -4,15 +4,15 @@ use mathlib.Core.Path.{_≡_, sym, ap, _∙_}
 use mathlib.Core.List.{List}
 use native.Mathlib.Omega.{arith}
 use lib.ListN.{length, length-append}
-use Rattle.window.specs.declared.Window.{Window}
-use Rattle.window.specs.Parse.{got, advanced}
+use Rattle.bitio_window.specs.declared.Window.{Window}
+use Rattle.bitio_window.specs.Parse.{got, advanced}
 use Rattle.types.specs.declared.RawBunchHeader.{RawBunchHeader}
-use Rattle.header.specs.Header.{fields}
-use Rattle.spelling.specs.Bits.{bitsFrom, put}
-use Rattle.spelling.specs.Header.{fieldsOf, headerBits, bunchBits}
-use Rattle.spelling.proofs.Lists.{length-bitsFrom}
-use Rattle.spelling.proofs.Reading.{in-a-row}
-use Rattle.spelling.proofs.Headers.{Sayable, reads-header}
+use Rattle.packet_header.specs.Header.{fields}
+use Rattle.writer_spelling.specs.Bits.{bitsFrom, putBits}
+use Rattle.writer_spelling.specs.Header.{fieldsOf, frontBits, headerBits, bunchBits}
+use Rattle.writer_spelling.proofs.Lists.{length-bitsFrom}
+use Rattle.writer_spelling.proofs.Reading.{in-a-row}
+use Rattle.writer_spelling.proofs.Headers.{Sayable, reads-header}
 use Rattle.writer.proofs.Puts.{bits-put-are-there}
 
 -- at the window's cursor the header's fields are read, and after it stands the payload
@@ -26,7 +26,7 @@ module _ (h : RawBunchHeader) (payload : List ℕ) (count : ℕ) where
   length-bunch = length-append (headerBits (fieldsOf h count)) (bitsFrom payload 0 count) ∙ ap (λ (n : ℕ). length (headerBits (fieldsOf h count)) + n) (length-bitsFrom payload 0 count)
 
   pub bunch-has-bits : 0 < length (bunchBits h payload count)
-  unfolding bunchBits headerBits
+  unfolding bunchBits headerBits frontBits
   bunch-has-bits = omega arith
 
   module _ (s : Sayable (fieldsOf h count)) where
@@ -43,6 +43,6 @@ module _ (h : RawBunchHeader) (payload : List ℕ) (count : ℕ) where
 
     -- what the writer put at a cursor
     pub put-reads : (p : List ℕ) (at : ℕ) (w : Window) → at + length (bunchBits h payload count) ≤ 8 * length p → w .start .0 + w .position .0 ≡ at
-        → length (bunchBits h payload count) ≤ w .length - w .position .0 → BunchBack h payload count (put p at (bunchBits h payload count)) w
+        → length (bunchBits h payload count) ≤ w .length - w .position .0 → BunchBack h payload count (putBits p at (bunchBits h payload count)) w
     put-reads p at w room e l =
-        bunch-reads (put p at (bunchBits h payload count)) w (rw e (bits-put-are-there p at (bunchBits h payload count) room)) l
+        bunch-reads (putBits p at (bunchBits h payload count)) w (rw e (bits-put-are-there p at (bunchBits h payload count) room)) l

@@ -5,12 +5,12 @@ use mathlib.Core.Bool.{cond}
 use mathlib.Core.List.{List}
 use lib.Dec.{eqb}
 use lib.ListN.{getD}
-use Rattle.window.specs.Refusals.{Refusal, beyond, payloadTooLong, payloadShort, unwritable, noRoom}
-use Rattle.window.specs.Parse.{Result, value, refusal}
-use Rattle.cursor.proofs.Determined.{determined}
+use Rattle.bitio_window.specs.Refusals.{Refusal, beyond, payloadTooLong, payloadShort, unwritable, noRoom}
+use Rattle.bitio_window.specs.Parse.{Result, value, refusal}
+use Rattle.bitio.proofs.Determined.{determined}
 use Rattle.writer.specs.declared.WriteError.{WriteError}
 use Rattle.writer.specs.declared.Written.{Written}
-use Rattle.writer.specs.Answers.{writePaper, Reply, ofWritten, replied}
+use Rattle.writer.specs.Answers.{writePaper, WriteReply, ofWritten, replied}
 
 -- a refusal by its number and what it returns
 unwrite : Refusal → WriteError
@@ -38,7 +38,7 @@ written-back (Written.Refused e) = ap Written.Refused (unwrite-paper e)
 
 module _ (r s : Written) (p q : List ℕ) (e : replied r p ≡ replied s q) where
   pub written-determined : r ≡ s
-  written-determined = determined ofWritten back written-back r s (ap (λ (x : Reply). x .answer) e)
+  written-determined = determined ofWritten back written-back r s (ap (λ (x : WriteReply). x .answer) e)
 
   pub packet-determined : p ≡ q
-  packet-determined = ap (λ (x : Reply). x .packet) e
+  packet-determined = ap (λ (x : WriteReply). x .packet) e

@@ -11,9 +11,9 @@ use lib.Pow.{pow-pos, pow-mono, shr-shr, high, low}
 use lib.Seq.{getD-set-same, getD-set-other, set-out}
 use mir.Val.{boolByte}
 use borrow.Author.Tests.{ltb-true, ltb-false, eqb-true, eqb-false}
-use Rattle.bits.specs.Bits.{bitAt}
-use Rattle.bits.proofs.Numbers.{cut}
-use Rattle.spelling.specs.Bits.{putBit}
+use Rattle.bitio_bits.specs.Bits.{bitAt}
+use Rattle.bitio_bits.proofs.Numbers.{cut}
+use Rattle.writer_spelling.specs.Bits.{putBit}
 
 -- a byte's bits, where its bit a is put: those below it, it, and those above
 module _ (x y a : ℕ) where

@@ -11,12 +11,12 @@ use lib.ListN.{length, getD, set, length-set}
 use lib.Pow.{pow-pos, pow-add, pow-mono, shl-exact}
 use lib.Seq.{set-set, getD-set-same}
 use mir.Val.{boolByte}
-use Rattle.bits.specs.Bits.{bitsAt}
-use Rattle.bits.specs.Words.{Peeked, stored}
-use Rattle.bits.proofs.Loads.{peeked-low}
-use Rattle.bits.proofs.Numbers.{bits-lt, bits-front}
-use Rattle.spelling.specs.Bits.{bitsOf, bitsFrom, putBit, put}
-use Rattle.spelling.proofs.Lists.{length-bitsFrom, from-append, of-at, put-append}
+use Rattle.bitio_bits.specs.Bits.{bitsAt}
+use Rattle.bitio_bits.specs.Words.{Peeked, stored}
+use Rattle.bitio_bits.proofs.Loads.{peeked-low}
+use Rattle.bitio_bits.proofs.Numbers.{bits-lt, bits-front}
+use Rattle.writer_spelling.specs.Bits.{numberBits, bitsFrom, putBit, putBits}
+use Rattle.writer_spelling.proofs.Lists.{length-bitsFrom, from-append, of-at, put-append}
 
 bit : (y : ℕ) → y < 2 → boolByte (eqb y 1) ≡ y
 bit zero h = refl
@@ -48,9 +48,9 @@ put-bit p i r y h f =
     ∙ ap (λ (z : ℕ). set p i (word p i r z)) (bit y f)
 
 put-first : (p : List ℕ) (i r n x : ℕ) → r < 8
-    → put p (8 * i + r) (bitsOf (suc n) x) ≡ put (set p i (word p i r (x % 2))) (8 * i + r + 1) (bitsOf n (x / 2))
-unfolding put bitsOf
-put-first p i r n x h = ap (λ (q : List ℕ). put q (8 * i + r + 1) (bitsOf n (x / 2))) (put-bit p i r (x % 2) h (omega arith))
+    → putBits p (8 * i + r) (numberBits (suc n) x) ≡ putBits (set p i (word p i r (x % 2))) (8 * i + r + 1) (numberBits n (x / 2))
+unfolding putBits numberBits
+put-first p i r n x h = ap (λ (q : List ℕ). putBits q (8 * i + r + 1) (numberBits n (x / 2))) (put-bit p i r (x % 2) h (omega arith))
 
 -- what stands in the first byte is written over
 over : (p : List ℕ) (i v w m : ℕ) → 0 < m → stored (set p i v) i w m ≡ stored p i w m
@@ -62,10 +62,10 @@ over p i v w (suc m) h = rw set-set
 abbrev Stored : ℕ → Type 0
 Stored n =
     (p : List ℕ) (i r x : ℕ) → r < 8 → x < 2 ^ n → 8 * i + r + n ≤ 8 * length p
-    → put p (8 * i + r) (bitsOf n x) ≡ stored p i (word p i r x) ((r + n + 7) / 8)
+    → putBits p (8 * i + r) (numberBits n x) ≡ stored p i (word p i r x) ((r + n + 7) / 8)
 
 one-stored : Stored 1
-unfolding put bitsOf stored
+unfolding putBits numberBits stored
 one-stored p i r x h f g =
     let m : (r + 1 + 7) / 8 ≡ 1 = omega arith in
     let one : x % 2 ≡ x = omega arith in
@@ -81,7 +81,7 @@ module _ (n : ℕ) (rest : Stored n) (p : List ℕ) (i r x : ℕ) (f : x < 2 ^ s
   half = omega (arith, pow-succ' 2 n)
 
   abbrev Onward : Type 0
-  Onward = put (set p i v) (8 * i + r + 1) (bitsOf n (x / 2)) ≡ stored p i (word p i r x) ((r + suc n + 7) / 8)
+  Onward = putBits (set p i v) (8 * i + r + 1) (numberBits n (x / 2)) ≡ stored p i (word p i r x) ((r + suc n + 7) / 8)
 
   same-byte : r ≤ 6 → Onward
   same-byte h =
@@ -92,7 +92,7 @@ module _ (n : ℕ) (rest : Stored n) (p : List ℕ) (i r x : ℕ) (f : x < 2 ^ s
       let same : word (set p i v) i (suc r) (x / 2) ≡ word p i r x =
       ap (λ (b : ℕ). b % 2 ^ suc r + x / 2 * 2 ^ suc r) there
       ∙ ap (λ (b : ℕ). b + x / 2 * 2 ^ suc r) (mod-eq-of-lt small) ∙ joined (getD p i 0 % 2 ^ r) x r in
-      ap (λ (j : ℕ). put (set p i v) j (bitsOf n (x / 2))) k
+      ap (λ (j : ℕ). putBits (set p i v) j (numberBits n (x / 2))) k
       ∙ rest (set p i v) i (suc r) (x / 2) (omega arith) half (rw (length-set p i v) (omega arith))
       ∙ ap₂ (λ (w t : ℕ). stored (set p i v) i w (t / 8)) same m
       ∙ over p i v (word p i r x) ((r + suc n + 7) / 8) (omega arith)
@@ -104,7 +104,7 @@ module _ (n : ℕ) (rest : Stored n) (p : List ℕ) (i r x : ℕ) (f : x < 2 ^ s
       let m : (r + suc n + 7) / 8 ≡ suc ((0 + n + 7) / 8) = omega arith in
       let byte : v ≡ word p i r x % 256 = rw h (omega arith) in
       let above : word (set p i v) (i + 1) 0 (x / 2) ≡ word p i r x / 256 = rw h (omega arith) in
-      ap (λ (j : ℕ). put (set p i v) j (bitsOf n (x / 2))) k
+      ap (λ (j : ℕ). putBits (set p i v) j (numberBits n (x / 2))) k
       ∙ rest (set p i v) (i + 1) 0 (x / 2) (omega arith) half (rw (length-set p i v) (omega arith))
       ∙ ap (λ (w : ℕ). stored (set p i v) (i + 1) w ((0 + n + 7) / 8)) above
       ∙ ap (λ (b : ℕ). stored (set p i b) (i + 1) (word p i r x / 256) ((0 + n + 7) / 8)) byte
@@ -119,11 +119,11 @@ bits-stored zero p i r x h f g = one-stored p i r x h f g
 bits-stored (suc n) p i r x h f g = put-first p i r (suc n) x h ∙ onward (suc n) (bits-stored n) p i r x f g (omega arith) (decLe r 6) h
 
 put-stored : (p : List ℕ) (k n x : ℕ) → 0 < n → x < 2 ^ n → k + n ≤ 8 * length p
-    → put p k (bitsOf n x) ≡ stored p (k / 8) (word p (k / 8) (k % 8) x) ((k % 8 + n + 7) / 8)
+    → putBits p k (numberBits n x) ≡ stored p (k / 8) (word p (k / 8) (k % 8) x) ((k % 8 + n + 7) / 8)
 put-stored p k zero x h f g = absurd (not-suc-le-zero h)
 put-stored p k (suc n) x h f g =
     let e : k ≡ 8 * (k / 8) + k % 8 = omega arith in
-    ap (λ (j : ℕ). put p j (bitsOf (suc n) x)) e ∙ bits-stored n p (k / 8) (k % 8) x (omega arith) f (omega arith)
+    ap (λ (j : ℕ). putBits p j (numberBits (suc n) x)) e ∙ bits-stored n p (k / 8) (k % 8) x (omega arith) f (omega arith)
 
 -- as the code has it: b is what stands before the cursor, and the word is shifted within 64 bits
 module _ (p : List ℕ) (k n x : ℕ) (f : x < 2 ^ n) (s : k % 8 + n ≤ 64) {b : ℕ} (e : b ≡ getD p (k / 8) 0 % 2 ^ (k % 8)) where
@@ -133,29 +133,29 @@ module _ (p : List ℕ) (k n x : ℕ) (f : x < 2 ^ n) (s : k % 8 + n ≤ 64) {b 
   pub word-fits : b + x * 2 ^ (k % 8) % 2 ^ 64 < 2 ^ 64
   word-fits = rw same-word (lt-of-lt-of-le (word-lt p (k / 8) (k % 8) x n f) (pow-mono {j = 64} s))
 
-  pub pushed : 0 < n → k + n ≤ 8 * length p → stored p (k / 8) (b + x * 2 ^ (k % 8) % 2 ^ 64) ((k % 8 + n + 7) / 8) ≡ put p k (bitsOf n x)
+  pub pushed : 0 < n → k + n ≤ 8 * length p → stored p (k / 8) (b + x * 2 ^ (k % 8) % 2 ^ 64) ((k % 8 + n + 7) / 8) ≡ putBits p k (numberBits n x)
   pushed h g = ap (λ (w : ℕ). stored p (k / 8) w ((k % 8 + n + 7) / 8)) same-word ∙ sym (put-stored p k n x h f g)
 
 -- eight whole bytes of a payload, at a byte's start
-pub word-pushed : (p d : List ℕ) (k j : ℕ) {x : ℕ} → x ≡ bitsAt d j 64 → k % 8 ≡ 0 → k + 64 ≤ 8 * length p → stored p (k / 8) x 8 ≡ put p k (bitsFrom d j 64)
+pub word-pushed : (p d : List ℕ) (k j : ℕ) {x : ℕ} → x ≡ bitsAt d j 64 → k % 8 ≡ 0 → k + 64 ≤ 8 * length p → stored p (k / 8) x 8 ≡ putBits p k (bitsFrom d j 64)
 word-pushed p d k j {x} b e g =
     let w : word p (k / 8) (k % 8) x ≡ x = rw e (omega arith) in
     let m : (k % 8 + 64 + 7) / 8 ≡ 8 = omega arith in
-    sym (put-stored p k 64 x (omega arith) (rw b (bits-lt d j 64)) g ∙ ap₂ (stored p (k / 8)) w m) ∙ ap (put p k) (ap (bitsOf 64) b ∙ of-at d j 64)
+    sym (put-stored p k 64 x (omega arith) (rw b (bits-lt d j 64)) g ∙ ap₂ (stored p (k / 8)) w m) ∙ ap (putBits p k) (ap (numberBits 64) b ∙ of-at d j 64)
 
 -- the lowest bits of a peeked word
-pub peeked-bits : (d : List ℕ) (k n : ℕ) {x y : ℕ} → Peeked d k x → n ≤ 57 → y ≡ x % 2 ^ n → bitsOf n y ≡ bitsFrom d k n
-peeked-bits d k n h s e = ap (bitsOf n) (e ∙ peeked-low d k n h s) ∙ of-at d k n
+pub peeked-bits : (d : List ℕ) (k n : ℕ) {x y : ℕ} → Peeked d k x → n ≤ 57 → y ≡ x % 2 ^ n → numberBits n y ≡ bitsFrom d k n
+peeked-bits d k n h s e = ap (numberBits n) (e ∙ peeked-low d k n h s) ∙ of-at d k n
 
 -- and of eight bytes' worth
-pub word-bits : (d : List ℕ) (k n : ℕ) {x y : ℕ} → x ≡ bitsAt d k 64 → n ≤ 64 → y ≡ x % 2 ^ n → bitsOf n y ≡ bitsFrom d k n
+pub word-bits : (d : List ℕ) (k n : ℕ) {x y : ℕ} → x ≡ bitsAt d k 64 → n ≤ 64 → y ≡ x % 2 ^ n → numberBits n y ≡ bitsFrom d k n
 word-bits d k n b s e =
     let m : 64 ≡ n + (64 - n) = omega arith in
-    ap (bitsOf n) (e ∙ ap (λ (x : ℕ). x % 2 ^ n) (b ∙ ap (bitsAt d k) m) ∙ bits-front d k n (64 - n)) ∙ of-at d k n
+    ap (numberBits n) (e ∙ ap (λ (x : ℕ). x % 2 ^ n) (b ∙ ap (bitsAt d k) m) ∙ bits-front d k n (64 - n)) ∙ of-at d k n
 
 -- q has a payload's first m bits, and t n more
-pub put-more : (p d : List ℕ) (k m n : ℕ) {q t : List ℕ} → q ≡ put p k (bitsFrom d 0 m) → t ≡ put q (k + m) (bitsFrom d m n) → t ≡ put p k (bitsFrom d 0 (m + n))
+pub put-more : (p d : List ℕ) (k m n : ℕ) {q t : List ℕ} → q ≡ putBits p k (bitsFrom d 0 m) → t ≡ putBits q (k + m) (bitsFrom d m n) → t ≡ putBits p k (bitsFrom d 0 (m + n))
 put-more p d k m n {q} e f =
-    f ∙ sym (ap (put p k) (from-append d 0 m n) ∙ put-append p k (bitsFrom d 0 m) (bitsFrom d (0 + m) n)
-    ∙ ap (λ (t : List ℕ). put t (k + length (bitsFrom d 0 m)) (bitsFrom d (0 + m) n)) (sym e)
-    ∙ ap₂ (λ (i j : ℕ). put q (k + i) (bitsFrom d j n)) (length-bitsFrom d 0 m) (zero-add m))
+    f ∙ sym (ap (putBits p k) (from-append d 0 m n) ∙ put-append p k (bitsFrom d 0 m) (bitsFrom d (0 + m) n)
+    ∙ ap (λ (t : List ℕ). putBits t (k + length (bitsFrom d 0 m)) (bitsFrom d (0 + m) n)) (sym e)
+    ∙ ap₂ (λ (i j : ℕ). putBits q (k + i) (bitsFrom d j n)) (length-bitsFrom d 0 m) (zero-add m))

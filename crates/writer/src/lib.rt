@@ -1,5 +1,5 @@
 // A bunch writer over a lent packet: what it writes, the packet reader reads back.
-use window::PacketBit;
+use bitio_window::PacketBit;
 
 pub mod inner;
 pub mod writing;

@@ -6,10 +6,11 @@ use crate::Written;
 use crate::inner::append;
 use crate::inner::push;
 use crate::inner::room;
-use spelling::inner::Bits;
-use spelling::inner::fields;
+use bitio_window::PacketBit;
+use types::MAX_PAYLOAD_BITS;
 use types::RawBunchHeader;
-use window::PacketBit;
+use writer_spelling::inner::Bits;
+use writer_spelling::inner::fields;
 
 // The first `count` bits of a payload under a header: 5, 16, 11, 12 or 17 where they can't be written.
 pub fn write_bunch(
@@ -31,7 +32,7 @@ pub fn write_bunch(
     if !fields::writable(header) {
         return Written::Refused(WriteError::Unwritable);
     }
-    if count > 16383 {
+    if count > MAX_PAYLOAD_BITS {
         return Written::Refused(WriteError::PayloadTooLong { count });
     }
     if room::past(payload.len(), count) {

@@ -1,4 +1,4 @@
-// Demand 3 on real memory (crates/isolation/specs): a list of calls for each channel, run channel after channel and then in other
+// Demand 3 on real memory (crates/claims_isolation/specs): a list of calls for each channel, run channel after channel and then in other
 // orders that keep each list. Each call must give the same answer and output bytes, and each channel hold the same in the end.
 
 use super::memory::{self, Place};

@@ -2,7 +2,7 @@
 ghost use mathlib.Core.Path.{_≡_};
 ghost use Prim.Native.Nat.{_+_, _-_, _≤_};
 ghost use lib.ListN.{length};
-ghost use Rattle.listing.specs.Input.{Held, Slid};
+ghost use Rattle.listing.specs.Input.{InBuffer, Slid};
 use libc::STDIN_FILENO;
 
 // The bytes of the log before the buffer, and how many stand in it.
@@ -38,8 +38,8 @@ fn read_more(buffer: &mut [u8], held: usize) -> usize
 }
 
 pub fn refill(buffer: &mut [u8], part: Part, at: usize) -> Part
-    requires { ⌜ Held (now buffer) part × (at ≤ part .held) ⌝ }
-    ensures { λ r. ⌜ Held (now (buffer .exit)) r ⌝ }
+    requires { ⌜ InBuffer (now buffer) part × (at ≤ part .held) ⌝ }
+    ensures { λ r. ⌜ InBuffer (now (buffer .exit)) r ⌝ }
 {
     let left = slide(buffer, at, part.held);
     let more = read_more(buffer, left);

@@ -2,7 +2,7 @@
 ghost use mathlib.Core.Path.{_≡_};
 ghost use Prim.Native.Nat.{_≤_};
 ghost use lib.ListN.{length};
-ghost use Rattle.telling.specs.Turns.{packetRoom, PacketRoom};
+ghost use Rattle.log_telling.specs.Turns.{packetRoom, PacketRoom};
 use libc::STDERR_FILENO;
 use libc::STDOUT_FILENO;
 
@@ -23,7 +23,7 @@ pub fn with_room(out: &[u8], used: usize) -> usize
     requires { ⌜ (used ≤ length (now out)) × (packetRoom ≤ length (now out)) ⌝ }
     ensures { λ r. ⌜ PacketRoom (now (out .entry)) r ⌝ }
 {
-    if telling::inner::is_room(out.len() - used) {
+    if log_telling::inner::is_room(out.len() - used) {
         return used;
     }
     flush(out, used)

@@ -1,24 +1,25 @@
 // The listing: the version byte, then record after record.
 ghost use mathlib.Core.Path.{_≡_};
 ghost use Prim.Native.Nat.{_≤_};
-ghost use lib.ListN.{length};
-ghost use Rattle.reading.specs.Memory.{memory};
-ghost use Rattle.reading.specs.State.{State};
+ghost use Rattle.types.specs.Types.{mostChannels};
+ghost use Rattle.packet_reading.specs.Memory.{readerMemory};
+ghost use Rattle.packet_reading.specs.State.{TablesSound};
 ghost use Rattle.log.specs.Log.{entryAt};
-ghost use Rattle.listing.specs.Input.{Held, Short};
-ghost use Rattle.telling.specs.Turns.{PacketRoom};
+ghost use Rattle.listing.specs.Input.{InBuffer, Short};
+ghost use Rattle.log_telling.specs.Turns.{PacketRoom};
 use crate::inner::input;
 use crate::inner::input::Part;
 use crate::inner::output;
 use libc::STDERR_FILENO;
 use log::Entry;
 use log::Version;
-use reading::Reader;
+use packet_reading::RawPacketReader;
+use types::MAX_ACTIVE_CHANNELS;
 
 fn cut(out: &mut [u8], used: usize, offset: u64)
     requires { ⌜ PacketRoom (now out) used ⌝ }
 {
-    let end = lines::inner::cut_line(out, used, offset);
+    let end = log_lines::inner::lines::cut_line(out, used, offset);
     output::flush(out, end);
     io::write_all(STDERR_FILENO, b"the log ends in a cut record\n");
 }
@@ -26,7 +27,7 @@ fn cut(out: &mut [u8], used: usize, offset: u64)
 fn other_version(out: &mut [u8], version: u8)
     requires { ⌜ PacketRoom (now out) 0 ⌝ }
 {
-    let end = lines::inner::version_line(out, 0, version);
+    let end = log_lines::inner::lines::version_line(out, 0, version);
     output::flush(out, end);
     io::write_all(STDERR_FILENO, b"the log is of another version\n");
 }
@@ -74,15 +75,26 @@ fn records(
     partial_channels: &mut [u32],
     partial_sequences: &mut [u32],
     partial_reliables: &mut [u32],
-) -> Reader
-    requires { ⌜ Held (now buffer) first × (1 ≤ first .held) × PacketRoom (now out) 0 × State 4096 0 0 (memory (now «sequence_channels») (now «sequence_numbers») (now «partial_channels») (now «partial_sequences») (now «partial_reliables»)) ⌝ }
-    ensures { λ r. ⌜ State 4096 (r .sequences) (r .partials) (memory (now («sequence_channels» .exit)) (now («sequence_numbers» .exit)) (now («partial_channels» .exit)) (now («partial_sequences» .exit)) (now («partial_reliables» .exit))) ⌝ }
+) -> RawPacketReader
+    requires { ⌜ (
+        let memory = readerMemory (now «sequence_channels») (now «sequence_numbers»)
+        (now «partial_channels») (now «partial_sequences») (now «partial_reliables») in
+        InBuffer (now buffer) first
+        × (1 ≤ first .held)
+        × PacketRoom (now out) 0
+        × TablesSound mostChannels 0 0 memory
+        ) ⌝ }
+    ensures { λ r. ⌜ (
+        let after = readerMemory (now («sequence_channels» .exit)) (now («sequence_numbers» .exit))
+        (now («partial_channels» .exit)) (now («partial_sequences» .exit)) (now («partial_reliables» .exit)) in
+        TablesSound mostChannels (r .«live_sequences») (r .«live_partials») after
+        ) ⌝ }
 {
     let mut part = first;
     let mut at: usize = 1;
     let mut used: usize = 0;
-    let mut sequences: usize = 0;
-    let mut partials: usize = 0;
+    let mut live_sequences: usize = 0;
+    let mut live_partials: usize = 0;
     let mut turns = u64::MAX;
     while turns > 0 {
         turns -= 1;
@@ -96,13 +108,13 @@ fn records(
         } = found {
             let from = start as usize;
             let to = next as usize;
-            let told = telling::inner::tell(
+            let told = log_telling::inner::tell(
                 &buffer[from..to],
                 id,
-                Reader {
-                    max_channels: 4096,
-                    sequences,
-                    partials,
+                RawPacketReader {
+                    max_channels: MAX_ACTIVE_CHANNELS,
+                    live_sequences,
+                    live_partials,
                 },
                 out,
                 used,
@@ -113,8 +125,8 @@ fn records(
                 partial_reliables,
             );
             used = output::with_room(out, told.end);
-            sequences = told.sequences;
-            partials = told.partials;
+            live_sequences = told.live_sequences;
+            live_partials = told.live_partials;
             at = to;
         } else {
             let left = held - at;
@@ -123,10 +135,10 @@ fn records(
             turns = finish(out, used, left, part, turns);
         }
     }
-    Reader {
-        max_channels: 4096,
-        sequences,
-        partials,
+    RawPacketReader {
+        max_channels: MAX_ACTIVE_CHANNELS,
+        live_sequences,
+        live_partials,
     }
 }
 
@@ -139,9 +151,18 @@ pub fn list(
     partial_channels: &mut [u32],
     partial_sequences: &mut [u32],
     partial_reliables: &mut [u32],
-) -> Reader
-    requires { ⌜ PacketRoom (now out) 0 × State 4096 0 0 (memory (now «sequence_channels») (now «sequence_numbers») (now «partial_channels») (now «partial_sequences») (now «partial_reliables»)) ⌝ }
-    ensures { λ r. ⌜ State 4096 (r .sequences) (r .partials) (memory (now («sequence_channels» .exit)) (now («sequence_numbers» .exit)) (now («partial_channels» .exit)) (now («partial_sequences» .exit)) (now («partial_reliables» .exit))) ⌝ }
+) -> RawPacketReader
+    requires { ⌜ (
+        let memory = readerMemory (now «sequence_channels») (now «sequence_numbers»)
+        (now «partial_channels») (now «partial_sequences») (now «partial_reliables») in
+        PacketRoom (now out) 0
+        × TablesSound mostChannels 0 0 memory
+        ) ⌝ }
+    ensures { λ r. ⌜ (
+        let after = readerMemory (now («sequence_channels» .exit)) (now («sequence_numbers» .exit))
+        (now («partial_channels» .exit)) (now («partial_sequences» .exit)) (now («partial_reliables» .exit)) in
+        TablesSound mostChannels (r .«live_sequences») (r .«live_partials») after
+        ) ⌝ }
 {
     let part = input::refill(buffer, Part { before: 0, held: 0 }, 0);
     let held = part.held;
@@ -159,9 +180,9 @@ pub fn list(
         );
     }
     not_ours(out, version);
-    Reader {
-        max_channels: 4096,
-        sequences: 0,
-        partials: 0,
+    RawPacketReader {
+        max_channels: MAX_ACTIVE_CHANNELS,
+        live_sequences: 0,
+        live_partials: 0,
     }
 }

@@ -4,8 +4,9 @@ use Prim.Native.Nat.{_-_}
 use native.Mathlib.Omega.{arith}
 use lib.ListN.{length, getD}
 use borrow.Author.Needs.{needs}
-use Rattle.cursor.proofs.Tests.{tested}
-use Rattle.timing.specs.Sums.{oneMore, copyOver, copiesMade, window}
+use Rattle.bitio_window.specs.Windows.{windowAt}
+use Rattle.bitio.proofs.Tests.{tested}
+use Rattle.timing.specs.Sums.{oneMore, copyOver, copiesMade}
 use Rattle.timing.proofs.Laws.{Row, begin, next, stop, finish, at-once}
 use Rattle.timing.proofs.Copies.{no-copy, no-room, too-few, copy-made, there, sound-after}
 use Rattle.timing.proofs.timing_copy.Statement.{statement}
@@ -20,7 +21,7 @@ abbrev μ-loop : tie.MeasureT-loop
 loop-holds : tie.Need-loop-holds Inv-loop μ-loop
 loop-holds c =
     let a = c .before .before .before .before .before .before .before .args in
-    (refl, begin (tested (a .bytes .now) (window (a .start) (a .position) (a .length)) (c .before .before .before .test .ensures) (c .before .enum-told2 .given .1)))
+    (refl, begin (tested (a .bytes .now) (windowAt (a .start) (a .position) (a .length)) (c .before .before .before .test .ensures) (c .before .enum-told2 .given .1)))
 
 add-if1-2 : tie.Need-add-if1-2 Inv-loop μ-loop
 add-if1-2 c = omega (arith, c .shared-slice-known3 .given (c .before .before .loop .k))
@@ -81,8 +82,8 @@ loop-again c =
 returns-3 : tie.Need-returns-3 Inv-loop μ-loop
 returns-3 c =
     let a = c .before .before .before .before .before .before .args in
-    at-once (λ i. copyOver (getD (a .counts .now) i 0)) (length (a .counts .now)) (a .bytes .now) (record { number = 0; target = a .target .now }) (window (a .start) (a .position) (a .length))
-    (no-copy (a .bytes .now) (window (a .start) (a .position) (a .length)) (c .before .before .test .ensures) (getD (a .counts .now) 0 0) (record { number = 0; target = a .target .now }) (c .enum-told .given .1))
+    at-once (λ i. copyOver (getD (a .counts .now) i 0)) (length (a .counts .now)) (a .bytes .now) (record { number = 0; target = a .target .now }) (windowAt (a .start) (a .position) (a .length))
+    (no-copy (a .bytes .now) (windowAt (a .start) (a .position) (a .length)) (c .before .before .test .ensures) (getD (a .counts .now) 0 0) (record { number = 0; target = a .target .now }) (c .enum-told .given .1))
 
 returns-4 : tie.Need-returns-4 Inv-loop μ-loop
 returns-4 c = finish (c .before .loop .inv .1) (search needs)

@@ -3,9 +3,10 @@ use mathlib.Core.Path.{sym, _∙_}
 use Prim.Native.Nat.{_-_}
 use mir.Val.{boolByte}
 use borrow.Author.Needs.{needs}
-use Rattle.window.specs.Reads.{bit, readBit}
-use Rattle.cursor.proofs.Tests.{tested}
-use Rattle.timing.specs.Sums.{plus, window, bitSum}
+use Rattle.bitio_window.specs.Reads.{bit, readBit}
+use Rattle.bitio_window.specs.Windows.{windowAt}
+use Rattle.bitio.proofs.Tests.{tested}
+use Rattle.timing.specs.Sums.{plus, bitSum}
 use Rattle.timing.proofs.Laws.{Row, begin, adds, sum-ends, finish, no-sum, bit-on}
 use Rattle.timing.proofs.timing_read_bit.Statement.{statement}
 use Rattle.timing.proofs.timing_read_bit.Tie as tie
@@ -19,7 +20,7 @@ abbrev μ-loop : tie.MeasureT-loop
 loop-holds : tie.Need-loop-holds Inv-loop μ-loop
 loop-holds c =
     let a = c .before .before .before .before .args in
-    begin (tested (a .bytes .now) (window (a .start) (a .position) (a .length)) (c .before .before .test .ensures) (c .enum-told2 .given .1))
+    begin (tested (a .bytes .now) (windowAt (a .start) (a .position) (a .length)) (c .before .before .test .ensures) (c .enum-told2 .given .1))
 
 bit-requires : tie.Need-bit-requires Inv-loop μ-loop
 bit-requires c κs = c .before .loop .inv .window
@@ -40,7 +41,7 @@ returns-2 : tie.Need-returns-2 Inv-loop μ-loop
 unfolding readBit
 returns-2 c =
     let a = c .before .before .before .before .args in
-    no-sum boolByte (λ i. bit) (a .n) (a .bytes .now) (window (a .start) (a .position) (a .length)) (c .before .before .test .ensures) (c .enum-told .given .1)
+    no-sum boolByte (λ i. bit) (a .n) (a .bytes .now) (windowAt (a .start) (a .position) (a .length)) (c .before .before .test .ensures) (c .enum-told .given .1)
 
 returns-3 : tie.Need-returns-3 Inv-loop μ-loop
 returns-3 c = finish (c .before .loop .inv) (search needs)

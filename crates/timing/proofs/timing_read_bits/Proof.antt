@@ -4,11 +4,12 @@ use Prim.Native.Nat.{_-_}
 use lib.Dec.{ltb}
 use lib.ListN.{length, getD}
 use borrow.Author.Needs.{needs}
-use Rattle.window.specs.Refusals.{tooWide}
-use Rattle.window.specs.Parse.{_>>_, refuseIf}
-use Rattle.window.specs.Reads.{bits, readBits}
-use Rattle.cursor.proofs.Tests.{tested}
-use Rattle.timing.specs.Sums.{plus, window, bitsSum}
+use Rattle.bitio_window.specs.Refusals.{tooWide}
+use Rattle.bitio_window.specs.Parse.{_>>_, refuseIf}
+use Rattle.bitio_window.specs.Reads.{bits, readBits}
+use Rattle.bitio_window.specs.Windows.{windowAt}
+use Rattle.bitio.proofs.Tests.{tested}
+use Rattle.timing.specs.Sums.{plus, bitsSum}
 use Rattle.timing.proofs.Laws.{Row, begin, adds, sum-ends, finish, no-sum, bits-on, too-wide}
 use Rattle.timing.proofs.timing_read_bits.Statement.{statement}
 use Rattle.timing.proofs.timing_read_bits.Tie as tie
@@ -22,7 +23,7 @@ abbrev μ-loop : tie.MeasureT-loop
 loop-holds : tie.Need-loop-holds Inv-loop μ-loop
 loop-holds c =
     let a = c .before .before .before .before .before .before .args in
-    begin (tested (a .bytes .now) (window (a .start) (a .position) (a .length)) (c .before .before .before .test .ensures) (c .before .enum-told2 .given .1))
+    begin (tested (a .bytes .now) (windowAt (a .start) (a .position) (a .length)) (c .before .before .before .test .ensures) (c .before .enum-told2 .given .1))
 
 returns : tie.Need-returns Inv-loop μ-loop
 returns c =
@@ -54,7 +55,7 @@ returns-3 : tie.Need-returns-3 Inv-loop μ-loop
 unfolding readBits
 returns-3 c =
     let a = c .before .before .before .before .before .args in
-    no-sum (λ v. v) (λ i. let m = getD (a .widths .now) i 0 in refuseIf (ltb 64 m) (tooWide m) >> bits m) (length (a .widths .now)) (a .bytes .now) (window (a .start) (a .position) (a .length)) (c .before .before .test .ensures) (c .enum-told .given .1)
+    no-sum (λ v. v) (λ i. let m = getD (a .widths .now) i 0 in refuseIf (ltb 64 m) (tooWide m) >> bits m) (length (a .widths .now)) (a .bytes .now) (windowAt (a .start) (a .position) (a .length)) (c .before .before .test .ensures) (c .enum-told .given .1)
 
 returns-4 : tie.Need-returns-4 Inv-loop μ-loop
 returns-4 c = finish (c .before .loop .inv) (search needs)

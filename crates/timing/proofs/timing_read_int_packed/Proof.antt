@@ -2,9 +2,10 @@
 use mathlib.Core.Path.{sym, _∙_}
 use Prim.Native.Nat.{_-_}
 use borrow.Author.Needs.{needs}
-use Rattle.numbers.specs.Reads.{packed, readPacked}
-use Rattle.cursor.proofs.Tests.{tested}
-use Rattle.timing.specs.Sums.{plus, window, packedSum}
+use Rattle.bitio_window.specs.Numbers.{packed, readPacked}
+use Rattle.bitio_window.specs.Windows.{windowAt}
+use Rattle.bitio.proofs.Tests.{tested}
+use Rattle.timing.specs.Sums.{plus, packedSum}
 use Rattle.timing.proofs.Laws.{Row, begin, adds, sum-ends, finish, no-sum, packed-on}
 use Rattle.timing.proofs.timing_read_int_packed.Statement.{statement}
 use Rattle.timing.proofs.timing_read_int_packed.Tie as tie
@@ -18,7 +19,7 @@ abbrev μ-loop : tie.MeasureT-loop
 loop-holds : tie.Need-loop-holds Inv-loop μ-loop
 loop-holds c =
     let a = c .before .before .before .before .args in
-    begin (tested (a .bytes .now) (window (a .start) (a .position) (a .length)) (c .before .before .test .ensures) (c .enum-told2 .given .1))
+    begin (tested (a .bytes .now) (windowAt (a .start) (a .position) (a .length)) (c .before .before .test .ensures) (c .enum-told2 .given .1))
 
 packed-requires : tie.Need-packed-requires Inv-loop μ-loop
 packed-requires c κs = c .before .loop .inv .window
@@ -39,7 +40,7 @@ returns-2 : tie.Need-returns-2 Inv-loop μ-loop
 unfolding readPacked
 returns-2 c =
     let a = c .before .before .before .before .args in
-    no-sum (λ v. v) (λ i. packed) (a .n) (a .bytes .now) (window (a .start) (a .position) (a .length)) (c .before .before .test .ensures) (c .enum-told .given .1)
+    no-sum (λ v. v) (λ i. packed) (a .n) (a .bytes .now) (windowAt (a .start) (a .position) (a .length)) (c .before .before .test .ensures) (c .enum-told .given .1)
 
 returns-3 : tie.Need-returns-3 Inv-loop μ-loop
 returns-3 c = finish (c .before .loop .inv) (search needs)

@@ -5,11 +5,12 @@ use native.Mathlib.Omega.{arith}
 use lib.Dec.{eqb}
 use lib.ListN.{length, getD}
 use borrow.Author.Needs.{needs}
-use Rattle.window.specs.Refusals.{zeroMaximum}
-use Rattle.window.specs.Parse.{_>>_, refuseIf}
-use Rattle.numbers.specs.Reads.{serialized, readSerialized}
-use Rattle.cursor.proofs.Tests.{tested}
-use Rattle.timing.specs.Sums.{plus, window, serializedSum}
+use Rattle.bitio_window.specs.Refusals.{zeroMaximum}
+use Rattle.bitio_window.specs.Parse.{_>>_, refuseIf}
+use Rattle.bitio_window.specs.Numbers.{serialized, readSerialized}
+use Rattle.bitio_window.specs.Windows.{windowAt}
+use Rattle.bitio.proofs.Tests.{tested}
+use Rattle.timing.specs.Sums.{plus, serializedSum}
 use Rattle.timing.proofs.Laws.{Row, begin, adds, sum-ends, finish, no-sum, serialized-on, no-maximum}
 use Rattle.timing.proofs.timing_read_serialized_int.Statement.{statement}
 use Rattle.timing.proofs.timing_read_serialized_int.Tie as tie
@@ -23,7 +24,7 @@ abbrev μ-loop : tie.MeasureT-loop
 loop-holds : tie.Need-loop-holds Inv-loop μ-loop
 loop-holds c =
     let a = c .before .before .before .before .before .args in
-    begin (tested (a .bytes .now) (window (a .start) (a .position) (a .length)) (c .before .before .test .ensures) (c .enum-told2 .given .1))
+    begin (tested (a .bytes .now) (windowAt (a .start) (a .position) (a .length)) (c .before .before .test .ensures) (c .enum-told2 .given .1))
 
 returns : tie.Need-returns Inv-loop μ-loop
 returns c =
@@ -55,7 +56,7 @@ returns-3 : tie.Need-returns-3 Inv-loop μ-loop
 unfolding readSerialized
 returns-3 c =
     let a = c .before .before .before .before .before .args in
-    no-sum (λ v. v) (λ i. let m = getD (a .maxima .now) i 0 in refuseIf (eqb m 0) (zeroMaximum m) >> serialized m) (length (a .maxima .now)) (a .bytes .now) (window (a .start) (a .position) (a .length)) (c .before .before .test .ensures) (c .enum-told .given .1)
+    no-sum (λ v. v) (λ i. let m = getD (a .maxima .now) i 0 in refuseIf (eqb m 0) (zeroMaximum m) >> serialized m) (length (a .maxima .now)) (a .bytes .now) (windowAt (a .start) (a .position) (a .length)) (c .before .before .test .ensures) (c .enum-told .given .1)
 
 returns-4 : tie.Need-returns-4 Inv-loop μ-loop
 returns-4 c = finish (c .before .loop .inv) (search needs)

@@ -2,7 +2,7 @@
 use Prim.Native.Nat.{_-_}
 use lib.ListN.{length, getD}
 use borrow.Author.Needs.{needs}
-use Rattle.window.specs.Reads.{readBits}
+use Rattle.bitio_window.specs.Reads.{readBits}
 use Rattle.timing.specs.Sums.{bitsSum}
 use Rattle.timing_reader.proofs.Rows.{Summing, begin, adds, ends, finish}
 use Rattle.timing_reader.proofs.timing_public_read_bits.Statement.{statement}

@@ -1,7 +1,7 @@
 -- One law for each way through the loop.
 use Prim.Native.Nat.{_-_}
 use borrow.Author.Needs.{needs}
-use Rattle.numbers.specs.Reads.{readPacked}
+use Rattle.bitio_window.specs.Numbers.{readPacked}
 use Rattle.timing.specs.Sums.{packedSum}
 use Rattle.timing_reader.proofs.Rows.{Summing, begin, adds, ends, finish}
 use Rattle.timing_reader.proofs.timing_public_read_int_packed.Statement.{statement}

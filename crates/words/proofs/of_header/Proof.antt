@@ -18,7 +18,7 @@ returns c =
     rw (
       id .to-word .ensures ∙ ap (ofZ w32) (toZ-ofZ w32 (h .«packet_id») f),
       sequence .to-word2 .ensures ∙ ap (ofZ w32) (toZ-ofZ w32 (h .«ch_sequence») g),
-      kind .before .reason-word .ensures,
+      kind .before .to-raw .ensures .0,
       kind .kind-word .ensures,
     )
     refl
@@ -33,6 +33,7 @@ of-header-spec =
     (λ c κs. search needs)
     (λ c. search needs)
     (λ c κs. search needs)
+    (λ c. search needs)
     (λ c κs. search needs)
     (λ c. search needs)
     (λ c. search needs)

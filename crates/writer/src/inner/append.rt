@@ -3,23 +3,24 @@ ghost use mathlib.Core.Path.{_≡_};
 ghost use mathlib.Core.List.{_++_};
 ghost use Prim.Native.Nat.{_+_, _*_, _≤_, _<_};
 ghost use lib.ListN.{length};
-ghost use Rattle.spelling.specs.Bits.{bitsFrom, put};
-ghost use Rattle.spelling.specs.Header.{headerBits};
-ghost use Rattle.spelling.specs.Words.{spelt, Piece};
-ghost use Rattle.writer.specs.Answers.{replied, added};
+ghost use Rattle.types.specs.Types.{longestPacketBits, longestPayload};
+ghost use Rattle.writer_spelling.specs.Bits.{bitsFrom, putBits};
+ghost use Rattle.writer_spelling.specs.Header.{headerBits};
+ghost use Rattle.writer_spelling.specs.Words.{spelt, Piece};
+ghost use Rattle.writer.specs.Answers.{replied, appended};
 use crate::WriteError;
 use crate::Written;
 use crate::inner::push;
 use crate::inner::room;
-use header::BunchFields;
-use spelling::inner::Bits;
-use spelling::inner::words;
-use window::PacketBit;
+use bitio_window::PacketBit;
+use packet_header::BunchFields;
+use writer_spelling::inner::Bits;
+use writer_spelling::inner::words;
 
 // The header's two words, as one where they fit into it.
 fn lay_header(packet: &mut [u8], at: u64, front: Bits, back: Bits)
-    requires { ⌜ Piece front × Piece back × (at + front .count + back .count ≤ 8 * length (now packet)) × (at ≤ 524280) ⌝ }
-    ensures { λ r. ⌜ now (packet .exit) ≡ put (put (now (packet .entry)) at (spelt front)) (at + front .count) (spelt back) ⌝ }
+    requires { ⌜ Piece front × Piece back × (at + front .count + back .count ≤ 8 * length (now packet)) × (at ≤ longestPacketBits) ⌝ }
+    ensures { λ r. ⌜ now (packet .exit) ≡ putBits (putBits (now (packet .entry)) at (spelt front)) (at + front .count) (spelt back) ⌝ }
 {
     if front.count + back.count > 56 {
         push::push(packet, at, front);
@@ -31,16 +32,31 @@ fn lay_header(packet: &mut [u8], at: u64, front: Bits, back: Bits)
 
 // The header and the payload.
 fn lay(packet: &mut [u8], at: u64, front: Bits, back: Bits, payload: &[u8], count: u64)
-    requires { ⌜ Piece front × Piece back × (count ≤ 8 * length (now payload)) × (at + front .count + back .count + count ≤ 8 * length (now packet)) × (at + front .count + back .count + count ≤ 524280) ⌝ }
-    ensures { λ r. ⌜ now (packet .exit) ≡ put (put (put (now (packet .entry)) at (spelt front)) (at + front .count) (spelt back)) (at + front .count + back .count) (bitsFrom (now (payload .entry)) 0 count) ⌝ }
+    requires { ⌜
+        Piece front
+        × Piece back
+        × (count ≤ 8 * length (now payload))
+        × (at + front .count + back .count + count ≤ 8 * length (now packet))
+        × (at + front .count + back .count + count ≤ longestPacketBits)
+        ⌝ }
+    ensures { λ r. ⌜
+        now (packet .exit)
+        ≡ putBits (putBits (putBits (now (packet .entry)) at (spelt front)) (at + front .count) (spelt back))
+        (at + front .count + back .count) (bitsFrom (now (payload .entry)) 0 count)
+        ⌝ }
 {
     lay_header(packet, at, front, back);
     push::payload(packet, at + front.count + back.count, payload, count);
 }
 
 pub fn append(f: BunchFields, payload: &[u8], packet: &mut [u8], at: u64) -> Written
-    requires { ⌜ (f .«close_reason» < 7) × (f .«payload_bit_count» ≤ 16383) × (f .«payload_bit_count» ≤ 8 * length (now payload)) ⌝ }
-    ensures { λ r. ⌜ replied r (now (packet .exit)) ≡ added (headerBits f ++ bitsFrom (now (payload .entry)) 0 (f .«payload_bit_count»)) (now (packet .entry)) at (at + length (headerBits f ++ bitsFrom (now (payload .entry)) 0 (f .«payload_bit_count»))) ⌝ }
+    requires { ⌜
+        (f .«close_reason» < 7) × (f .«payload_bit_count» ≤ longestPayload) × (f .«payload_bit_count» ≤ 8 * length (now payload))
+        ⌝ }
+    ensures { λ r. ⌜ (
+        let bits = headerBits f ++ bitsFrom (now (payload .entry)) 0 (f .«payload_bit_count») in
+        replied r (now (packet .exit)) ≡ appended bits (now (packet .entry)) at (at + length bits)
+        ) ⌝ }
 {
     let front = words::front(f);
     let back = words::back(f);

@@ -1,25 +1,19 @@
 // Bits into a packet, whole bytes at a time: those of a word, and those of a payload.
 ghost use mathlib.Core.Path.{_≡_};
-ghost use Prim.Native.Nat.{_+_, _*_, _%_, _≤_, _<_, _^_, min};
+ghost use Prim.Native.Nat.{_+_, _*_, _%_, _≤_, _<_, min};
 ghost use lib.ListN.{length};
-ghost use Rattle.spelling.specs.Bits.{bitsFrom, put};
-ghost use Rattle.spelling.specs.Words.{spelt, Whole};
-use bits::inner::words;
-use spelling::inner::Bits;
-use window::inner::copy;
-
-// The n lowest bits of a word.
-fn low(word: u64, n: u64) -> u64
-    requires { ⌜ n < 64 ⌝ }
-    ensures { λ r. ⌜ (r ≡ word % 2 ^ n) × (r < 2 ^ n) ⌝ }
-{
-    word & ((1 << n) - 1)
-}
+ghost use Rattle.types.specs.Types.{longestPacketBits};
+ghost use Rattle.writer_spelling.specs.Bits.{bitsFrom, putBits};
+ghost use Rattle.writer_spelling.specs.Words.{spelt, Whole};
+use bitio_bits::inner::arithmetic::low;
+use bitio_bits::inner::words;
+use bitio_window::inner::copy;
+use writer_spelling::inner::Bits;
 
 // A word's bits at bit `at`: the byte there is joined with what stands before the cursor.
 pub fn push(packet: &mut [u8], at: u64, bits: Bits)
     requires { ⌜ Whole bits × (0 < bits .count) × (at % 8 + bits .count ≤ 64) × (at + bits .count ≤ 8 * length (now packet)) ⌝ }
-    ensures { λ r. ⌜ now (packet .exit) ≡ put (now (packet .entry)) at (spelt bits) ⌝ }
+    ensures { λ r. ⌜ now (packet .exit) ≡ putBits (now (packet .entry)) at (spelt bits) ⌝ }
 {
     let place = (at / 8) as usize;
     let off = at % 8;
@@ -43,7 +37,7 @@ fn least(a: u64, b: u64) -> u64
 fn step(packet: &mut [u8], at: u64, payload: &[u8], from: u64, left: u64) -> u64
     requires { ⌜ (0 < left) × (from + left ≤ 8 * length (now payload)) × (at + left ≤ 8 * length (now packet)) ⌝ }
     ensures reached { λ r. ⌜ (0 < r) × (r ≤ left) ⌝ }
-    ensures leaves { λ r. ⌜ now (packet .exit) ≡ put (now (packet .entry)) at (bitsFrom (now (payload .entry)) from r) ⌝ }
+    ensures leaves { λ r. ⌜ now (packet .exit) ≡ putBits (now (packet .entry)) at (bitsFrom (now (payload .entry)) from r) ⌝ }
 {
     let off = at % 8;
     if left >= 64 {
@@ -72,8 +66,8 @@ fn step(packet: &mut [u8], at: u64, payload: &[u8], from: u64, left: u64) -> u64
 
 // The first `count` bits of a payload.
 pub fn payload(packet: &mut [u8], at: u64, payload: &[u8], count: u64)
-    requires { ⌜ (count ≤ 8 * length (now payload)) × (at + count ≤ 8 * length (now packet)) × (at + count ≤ 524280) ⌝ }
-    ensures { λ r. ⌜ now (packet .exit) ≡ put (now (packet .entry)) at (bitsFrom (now (payload .entry)) 0 count) ⌝ }
+    requires { ⌜ (count ≤ 8 * length (now payload)) × (at + count ≤ 8 * length (now packet)) × (at + count ≤ longestPacketBits) ⌝ }
+    ensures { λ r. ⌜ now (packet .exit) ≡ putBits (now (packet .entry)) at (bitsFrom (now (payload .entry)) 0 count) ⌝ }
 {
     let mut done = 0;
     while done < count {

@@ -4,9 +4,9 @@ use Prim.Native.Nat.{_*_}
 use native.Mathlib.Omega.{arith}
 use borrow.Author.Needs.{needs}
 use borrow.Author.Tests.{lt-ltb, le-ltb}
-use Rattle.window.specs.Copies.{copyBits}
-use Rattle.window.proofs.Rows.{refuses, lets-on}
-use Rattle.cursor.proofs.Tests.{stopped, went-on, tested}
+use Rattle.bitio_window.specs.Copies.{copyBits}
+use Rattle.bitio_window.proofs.Rows.{refuses, lets-on}
+use Rattle.bitio.proofs.Tests.{stopped, went-on, tested}
 use Rattle.bitio.proofs.copies.judge.Statement.{statement}
 use Rattle.bitio.proofs.copies.judge.Tie as tie
 

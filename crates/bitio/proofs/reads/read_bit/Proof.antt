@@ -1,8 +1,8 @@
 -- The tests, and then what `inner` reads.
 use mathlib.Core.Path.{sym, _∙_}
 use borrow.Author.Needs.{needs}
-use Rattle.window.specs.Reads.{readBit}
-use Rattle.cursor.proofs.Tests.{stopped, went-on, tested}
+use Rattle.bitio_window.specs.Reads.{readBit}
+use Rattle.bitio.proofs.Tests.{stopped, went-on, tested}
 use Rattle.bitio.proofs.reads.read_bit.Statement.{statement}
 use Rattle.bitio.proofs.reads.read_bit.Tie as tie
 

@@ -2,9 +2,9 @@
 use mathlib.Core.Path.{sym, _∙_}
 use borrow.Author.Needs.{needs}
 use borrow.Author.Tests.{lt-ltb, le-ltb}
-use Rattle.window.specs.Reads.{readBits}
-use Rattle.window.proofs.Rows.{refuses, lets-on}
-use Rattle.cursor.proofs.Tests.{stopped, went-on, tested}
+use Rattle.bitio_window.specs.Reads.{readBits}
+use Rattle.bitio_window.proofs.Rows.{refuses, lets-on}
+use Rattle.bitio.proofs.Tests.{stopped, went-on, tested}
 use Rattle.bitio.proofs.reads.read_bits.Statement.{statement}
 use Rattle.bitio.proofs.reads.read_bits.Tie as tie
 

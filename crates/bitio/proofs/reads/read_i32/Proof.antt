@@ -4,11 +4,11 @@ use lib.IntN.{ℤ}
 use mir.Syntax.{w32}
 use mir.ValLaws.{toZ-ofZ}
 use borrow.Author.Needs.{needs}
-use Rattle.window.specs.declared.U32.{U32}
-use Rattle.bits.specs.Floats.{signed}
-use Rattle.window.specs.Parse.{got}
-use Rattle.window.specs.Reads.{readBits, readI32}
-use Rattle.window.specs.Answers.{u32Answer}
+use Rattle.bitio_window.specs.declared.U32.{U32}
+use Rattle.bitio_bits.specs.Floats.{signed}
+use Rattle.bitio_window.specs.Parse.{got}
+use Rattle.bitio_window.specs.Reads.{readBits, readI32}
+use Rattle.bitio_window.specs.Answers.{u32Answer}
 use Rattle.bitio.proofs.Values.{made, not-made}
 use Rattle.bitio.proofs.reads.read_i32.Statement.{statement}
 use Rattle.bitio.proofs.reads.read_i32.Tie as tie

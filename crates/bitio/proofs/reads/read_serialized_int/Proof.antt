@@ -3,9 +3,9 @@ use mathlib.Core.Path.{sym, _∙_}
 use native.Mathlib.Omega.{arith}
 use borrow.Author.Needs.{needs}
 use borrow.Author.Tests.{eq-eqb, ne-eqb}
-use Rattle.numbers.specs.Reads.{readSerialized}
-use Rattle.window.proofs.Rows.{refuses, lets-on}
-use Rattle.cursor.proofs.Tests.{stopped, went-on, tested}
+use Rattle.bitio_window.specs.Numbers.{readSerialized}
+use Rattle.bitio_window.proofs.Rows.{refuses, lets-on}
+use Rattle.bitio.proofs.Tests.{stopped, went-on, tested}
 use Rattle.bitio.proofs.reads.read_serialized_int.Statement.{statement}
 use Rattle.bitio.proofs.reads.read_serialized_int.Tie as tie
 

@@ -1,6 +1,6 @@
 -- Both cases, by what the match told.
 use mathlib.Core.Path.{refl}
-use Rattle.window.specs.Refusals.{unfit}
+use Rattle.bitio_window.specs.Refusals.{unfit}
 use Rattle.exports_bunch.specs.Opening.{limitsWords}
 use borrow.Author.Needs.{needs}
 use Rattle.exports_bunch.proofs.opening.of_opened.Statement.{statement}

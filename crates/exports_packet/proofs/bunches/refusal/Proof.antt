@@ -1,5 +1,5 @@
 -- Each case, by what the match told.
-use Rattle.window.specs.Refusals.{beyond, packetTooLong, unfit, unsound}
+use Rattle.bitio_window.specs.Refusals.{beyond, packetTooLong, unfit, unsound}
 use borrow.Author.Needs.{needs}
 use Rattle.exports_packet.proofs.bunches.refusal.Statement.{statement}
 use Rattle.exports_packet.proofs.bunches.refusal.Tie as tie

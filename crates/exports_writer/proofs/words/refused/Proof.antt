@@ -1,5 +1,5 @@
 -- Each case, by what the match told.
-use Rattle.window.specs.Refusals.{beyond, payloadTooLong, payloadShort, unwritable, noRoom}
+use Rattle.bitio_window.specs.Refusals.{beyond, payloadTooLong, payloadShort, unwritable, noRoom}
 use Rattle.exports_writer.specs.Words.{writtenWords}
 use borrow.Author.Needs.{needs}
 use Rattle.exports_writer.proofs.words.refused.Statement.{statement}

@@ -2,10 +2,10 @@
 use mathlib.Core.Path.{sym, _∙_}
 use borrow.Author.Needs.{needs}
 use lib.Dec.{eqb}
-use Rattle.window.specs.Refusals.{unresolved}
-use Rattle.window.specs.Parse.{refuseIf}
-use Rattle.cursor.proofs.Tests.{stopped, went-on, tested}
-use Rattle.walking.specs.Records.{look}
+use Rattle.bitio_window.specs.Refusals.{unresolved}
+use Rattle.bitio_window.specs.Parse.{refuseIf}
+use Rattle.bitio.proofs.Tests.{stopped, went-on, tested}
+use Rattle.field_walking.specs.Records.{look}
 use Rattle.field.proofs.Opens.{cache-refused, cache-opened, no-count, some-count}
 use Rattle.field.proofs.walks.parse_class_net_cache.Statement.{statement}
 use Rattle.field.proofs.walks.parse_class_net_cache.Tie as tie

@@ -1,9 +1,9 @@
 -- The ignored bit, the walk, and what is left after its end.
 use mathlib.Core.Path.{ap, sym, _∙_}
 use borrow.Author.Needs.{needs}
-use Rattle.window.specs.declared.Bit.{Bit}
-use Rattle.window.specs.Answers.{bitAnswer}
-use Rattle.walking.specs.Records.{look}
+use Rattle.bitio_window.specs.declared.Bit.{Bit}
+use Rattle.bitio_window.specs.Answers.{bitAnswer}
+use Rattle.field_walking.specs.Records.{look}
 use Rattle.field.specs.Walks.{settle}
 use Rattle.field.proofs.Opens.{past-bit, layout-refused, layout-opened}
 use Rattle.field.proofs.walks.rep_layout.Statement.{statement}

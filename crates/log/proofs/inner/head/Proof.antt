@@ -3,7 +3,7 @@ use mathlib.Core.Path.{ap, _∙_}
 use native.Mathlib.Omega.{arith}
 use mir.Syntax.{w32}
 use mir.ValLaws.{toZ-ofZ}
-use Rattle.bits.specs.Floats.{signed}
+use Rattle.bitio_bits.specs.Floats.{signed}
 use borrow.Author.Needs.{needs}
 use Rattle.log.proofs.inner.head.Statement.{statement}
 use Rattle.log.proofs.inner.head.Tie as tie

@@ -4,7 +4,7 @@ use borrow.Author.Tests.{ltb-true, ltb-false, not-true, not-false}
 use mir.Syntax.{w32}
 use mir.Val.{ofZ}
 use mir.ValLaws.{toZ-ofZ}
-use Rattle.reading.specs.Memory.{memory}
+use Rattle.packet_reading.specs.Memory.{readerMemory}
 use Rattle.packet.proofs.Soundness.{state}
 use Rattle.packet.proofs.Calls.{ten, eight, five, answered}
 use borrow.Author.Needs.{needs}
@@ -25,7 +25,7 @@ returns-3 : tie.Need-returns-3
 returns-3 c =
     let a = c .before .before .before .before .before .before .before .before .before .before .before .before .before .before .before .before .before .before .args in
     let is = c .before .before .before .data-bits .ensures .0 in
-    let m = memory (a .sequence-channels .now) (a .sequence-numbers .now) (a .partial-channels .now) (a .partial-sequences .now) (a .partial-reliables .now) in
+    let m = readerMemory (a .sequence-channels .now) (a .sequence-numbers .now) (a .partial-channels .now) (a .partial-sequences .now) (a .partial-reliables .now) in
     rw is at (c .refused3 .ensures m)
     ∙ five (a .packet .now) (a .packet-id) (a .at .0) (a .reader) _ (sym (c .before .before .before .before .before .before .sound .ensures) ∙ not-false _ (c .before .before .before .before .before .if1 .left)) (c .before .before .before .before .if2 .left) (ltb-true _ _ (rw is at (sym (c .before .before .past-end .ensures) ∙ c .before .if3 .taken)))
 
@@ -33,8 +33,8 @@ read-requires : tie.Need-read-requires
 read-requires c κs =
     let a = c .before .before .before .before .before .before .before .before .before .before .before .before .before .before .before .before .before .before .before .before .before .before .before .args in
     let r = a .reader in
-    let m = memory (a .sequence-channels .now) (a .sequence-numbers .now) (a .partial-channels .now) (a .partial-sequences .now) (a .partial-reliables .now) in
-    (state (r .«max_channels») (r .sequences) (r .partials) m (sym (c .before .before .before .before .before .before .before .before .before .before .before .sound .ensures) ∙ not-false _ (c .before .before .before .before .before .before .before .before .before .before .if1 .left)), c .before .before .before .before .before .before .before .before .before .if2 .left, ltb-false _ _ (rw (c .before .before .before .before .before .before .before .before .data-bits .ensures .0) at (sym (c .before .before .before .before .before .before .before .past-end .ensures) ∙ c .before .before .before .before .before .before .if3 .left)))
+    let m = readerMemory (a .sequence-channels .now) (a .sequence-numbers .now) (a .partial-channels .now) (a .partial-sequences .now) (a .partial-reliables .now) in
+    (state (r .«max_channels») (r .«live_sequences») (r .«live_partials») m (sym (c .before .before .before .before .before .before .before .before .before .before .before .sound .ensures) ∙ not-false _ (c .before .before .before .before .before .before .before .before .before .before .if1 .left)), c .before .before .before .before .before .before .before .before .before .if2 .left, ltb-false _ _ (rw (c .before .before .before .before .before .before .before .before .data-bits .ensures .0) at (sym (c .before .before .before .before .before .before .before .past-end .ensures) ∙ c .before .before .before .before .before .before .if3 .left)))
 
 returns-4 : tie.Need-returns-4
 returns-4 c =

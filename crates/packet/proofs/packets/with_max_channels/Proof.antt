@@ -1,17 +1,17 @@
 -- Both ways of the test.
 use mathlib.Core.Path.{sym, _∙_}
-use Rattle.reading.specs.Memory.{fit}
-use Rattle.packet.specs.Answers.{opened}
+use Rattle.packet_reading.specs.Memory.{tablesFit}
+use Rattle.packet.specs.Answers.{openedReader}
 use borrow.Author.Needs.{needs}
 use Rattle.packet.proofs.packets.with_max_channels.Statement.{statement}
 use Rattle.packet.proofs.packets.with_max_channels.Tie as tie
 
 returns : tie.Need-returns
-unfolding opened fit
+unfolding openedReader tablesFit
 returns c = rw (sym (c .before .fitting .ensures) ∙ c .if1 .taken)
 
 returns-2 : tie.Need-returns-2
-unfolding opened fit
+unfolding openedReader tablesFit
 returns-2 c = rw (sym (c .before .fitting .ensures) ∙ c .if1 .left)
 
 pub with-max-channels-spec : {M : Type 1} → statement M

@@ -6,10 +6,10 @@ use mathlib.Core.List.{List, [], _∷_}
 use native.Mathlib.Omega.{arith}
 use lib.ListN.{length}
 use borrow.Author.Tests.{ltb-true}
-use Rattle.window.specs.Refusals.{noRoom}
-use Rattle.window.specs.Parse.{value}
-use Rattle.spelling.specs.Bits.{bitsOf}
-use Rattle.writer.specs.Answers.{refuses}
+use Rattle.bitio_window.specs.Refusals.{noRoom}
+use Rattle.bitio_window.specs.Parse.{value}
+use Rattle.writer_spelling.specs.Bits.{numberBits}
+use Rattle.writer.specs.Answers.{writeRefuses}
 use Rattle.writer.proofs.Calls.{close-five, close-adds, seventeen, puts, there}
 use borrow.Author.Needs.{needs}
 use Rattle.writer.proofs.writing.close_packet.Statement.{statement}
@@ -24,7 +24,7 @@ returns c = close-five (c .before .before .before .args .packet .now) (c .before
 returns-2 : tie.Need-returns-2
 returns-2 c =
     let a = c .before .before .before .before .before .before .args in
-    ap (λ (k : ℕ). refuses (noRoom k) (a .packet .now)) (c .bits-with .ensures)
+    ap (λ (k : ℕ). writeRefuses (noRoom k) (a .packet .now)) (c .bits-with .ensures)
     ∙ seventeen (true ∷ []) (a .packet .now) (a .at .0) _ (sym (c .before .before .none-for .ensures) ∙ c .before .if2 .taken)
     ∙ close-adds (a .packet .now) (a .at .0) (sym (c .before .before .before .before .past .ensures) ∙ c .before .before .before .if1 .left)
 
@@ -41,7 +41,7 @@ mul-t17 c =
     }
 
 returns-3 : tie.Need-returns-3
-unfolding bitsOf
+unfolding numberBits
 returns-3 c =
     let a = c .before .before .before .before .before .before .before .before .before .before .args in
     let p = a .packet .now in

@@ -4,7 +4,7 @@ use mathlib.Core.Path.{_∙_, sym}
 use native.Mathlib.Omega.{arith}
 use lib.ListN.{length}
 use borrow.Author.Tests.{ltb-true, ltb-false, not-true, not-false}
-use Rattle.spelling.specs.Header.{fieldsOf, bunchBits}
+use Rattle.writer_spelling.specs.Header.{fieldsOf, bunchBits}
 use Rattle.writer.proofs.Calls.{five, sixteen, eleven, twelve, appends}
 use borrow.Author.Needs.{needs}
 use Rattle.writer.proofs.writing.write_bunch.Statement.{statement}

@@ -5,7 +5,7 @@ use native.Mathlib.Omega.{arith}
 use lib.ListN.{length}
 use borrow.Author.Needs.{needs}
 use borrow.Author.Tests.{leb-true}
-use Rattle.telling.specs.Turns.{packetRoom}
+use Rattle.log_telling.specs.Turns.{packetRoom}
 use Rattle.listing.proofs.inner.output.with_room.Statement.{statement}
 use Rattle.listing.proofs.inner.output.with_room.Tie as tie
 

@@ -2,8 +2,8 @@
 use mathlib.Core.Path.{refl, sym, _∙_}
 use native.Mathlib.Omega.{arith}
 use lib.ListN.{length-take}
-use Rattle.reading.specs.Memory.{memory}
-use Rattle.telling.proofs.Telling.{same-sizes}
+use Rattle.packet_reading.specs.Memory.{readerMemory}
+use Rattle.log_telling.proofs.Telling.{same-sizes}
 use Rattle.listing.proofs.Going.{Going, lies}
 use borrow.Author.Needs.{needs}
 use Rattle.listing.proofs.inner.run.records.Statement.{statement}
@@ -11,7 +11,7 @@ use Rattle.listing.proofs.inner.run.records.Tie as tie
 
 abbrev Inv-loop : tie.InvT-loop
 Inv-loop buffer₀ out₀ sequence-channels₀ sequence-numbers₀ partial-channels₀ partial-sequences₀ partial-reliables₀ part₀ at₀ used₀ sequences₀ partials₀ turns₀ buffer out sequence-channels sequence-numbers partial-channels partial-sequences partial-reliables part at used sequences partials turns =
-    Going buffer₀ out₀ buffer out part at used (memory sequence-channels₀ sequence-numbers₀ partial-channels₀ partial-sequences₀ partial-reliables₀) (memory sequence-channels sequence-numbers partial-channels partial-sequences partial-reliables) sequences partials
+    Going buffer₀ out₀ buffer out part at used (readerMemory sequence-channels₀ sequence-numbers₀ partial-channels₀ partial-sequences₀ partial-reliables₀) (readerMemory sequence-channels sequence-numbers partial-channels partial-sequences partial-reliables) sequences partials
 
 abbrev μ-loop : tie.MeasureT-loop
 μ-loop buffer₀ out₀ sequence-channels₀ sequence-numbers₀ partial-channels₀ partial-sequences₀ partial-reliables₀ part₀ at₀ used₀ sequences₀ partials₀ turns₀ buffer out sequence-channels sequence-numbers partial-channels partial-sequences partial-reliables part at used sequences partials turns =

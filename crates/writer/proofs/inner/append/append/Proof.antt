@@ -5,9 +5,9 @@ use mathlib.Core.List.{List}
 use native.Mathlib.Omega.{arith}
 use lib.ListN.{length}
 use borrow.Author.Needs.{needs}
-use Rattle.window.specs.Refusals.{noRoom}
-use Rattle.window.specs.Parse.{value}
-use Rattle.writer.specs.Answers.{refuses, bitsWith}
+use Rattle.bitio_window.specs.Refusals.{noRoom}
+use Rattle.bitio_window.specs.Parse.{value}
+use Rattle.writer.specs.Answers.{writeRefuses, bitsWith}
 use Rattle.writer.proofs.Appending.{front-some, back-some, length-bunch, put-bunch}
 use Rattle.writer.proofs.Calls.{seventeen, puts, there}
 use Rattle.writer.proofs.inner.append.append.Statement.{statement}
@@ -17,7 +17,7 @@ returns : tie.Need-returns
 returns c =
     let a = c .before .before .before .before .before .before .before .before .before .before .args in
     let n = length-bunch (a .f) (a .payload .now) (a .f .«payload_bit_count») (c .before .before .before .before .before .before .before .front .ensures) (c .before .before .before .before .before .before .back .ensures) in
-    ap (λ (k : ℕ). refuses (noRoom k) (a .packet .now)) (c .bits-with .ensures ∙ ap (bitsWith (a .at)) (sym n))
+    ap (λ (k : ℕ). writeRefuses (noRoom k) (a .packet .now)) (c .bits-with .ensures ∙ ap (bitsWith (a .at)) (sym n))
     ∙ seventeen _ (a .packet .now) (a .at) _ (rw n (sym (c .before .before .none-for .ensures) ∙ c .before .if1 .taken))
 
 in-room : (c : tie.Else1) → let more = c .before .before .before .before .before .before .before .before .before .args .at + (c .before .before .before .before .before .before .front .result .count + c .before .before .before .before .before .back .result .count + c .before .before .before .before .before .before .before .before .before .args .f .«payload_bit_count») in (more ≤ 8 * length (c .before .before .before .before .before .before .before .before .before .args .packet .now)) × (more ≤ 524280)

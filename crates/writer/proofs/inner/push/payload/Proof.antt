@@ -4,20 +4,20 @@ use Prim.Native.Nat.{ℕ, _-_, _≤_}
 use native.Mathlib.Omega.{arith}
 use lib.ListN.{length}
 use borrow.Author.Needs.{needs}
-use Rattle.spelling.specs.Bits.{bitsFrom, put}
+use Rattle.writer_spelling.specs.Bits.{bitsFrom, putBits}
 use Rattle.writer.proofs.Pushing.{put-more}
 use Rattle.writer.proofs.inner.push.payload.Statement.{statement}
 use Rattle.writer.proofs.inner.push.payload.Tie as tie
 
 abbrev Inv-loop : tie.InvT-loop
 Inv-loop packet₀ at payload count done₀ packet done =
-    (done ≤ count) × (length packet ≡ length packet₀) × (packet ≡ put packet₀ at (bitsFrom payload 0 done))
+    (done ≤ count) × (length packet ≡ length packet₀) × (packet ≡ putBits packet₀ at (bitsFrom payload 0 done))
 
 abbrev μ-loop : tie.MeasureT-loop
 μ-loop packet₀ at payload count done₀ packet done = count - done
 
 loop-holds : tie.Need-loop-holds Inv-loop μ-loop
-unfolding put bitsFrom
+unfolding putBits bitsFrom
 loop-holds c = (omega arith, refl, refl)
 
 loop-again : tie.Need-loop-again Inv-loop μ-loop
@@ -35,7 +35,7 @@ returns c =
     let a = c .before .before .before .before .args in
     let l = c .before .loop in
     let e : l .done ≡ a .count = omega arith in
-    l .inv .2 ∙ ap (λ (n : ℕ). put (a .packet .now) (a .at) (bitsFrom (a .payload .now) 0 n)) e
+    l .inv .2 ∙ ap (λ (n : ℕ). putBits (a .packet .now) (a .at) (bitsFrom (a .payload .now) 0 n)) e
 
 pub payload-spec : {M : Type 1} → statement M
 payload-spec =

@@ -3,7 +3,7 @@ use mathlib.Core.Path.{ap, _∙_}
 use Prim.Native.Nat.{_-_, _%_}
 use native.Mathlib.Omega.{arith}
 use borrow.Author.Needs.{needs}
-use Rattle.spelling.specs.Bits.{put}
+use Rattle.writer_spelling.specs.Bits.{putBits}
 use Rattle.writer.proofs.Pushing.{word-pushed, peeked-bits, word-bits}
 use Rattle.writer.proofs.inner.push.step.Statement.{statement}
 use Rattle.writer.proofs.inner.push.step.Tie as tie
@@ -21,7 +21,7 @@ returns-2 c =
     let a = c .before .before .before .before .before .before .before .before .before .before .args in (
       (omega arith, omega arith),
       c .before .before .push .ensures
-          ∙ ap (put (a .packet .now) (a .at))
+          ∙ ap (putBits (a .packet .now) (a .at))
           (word-bits (a .payload .now) (a .from) (64 - a .at % 8) (c .before .before .before .before .before .before .word-at .ensures) (omega arith)
           (c .before .before .before .before .low .ensures .0)),
     )
@@ -32,7 +32,7 @@ returns-3 c =
     let n = c .before .before .before .before .before .before .least in (
       (omega arith, omega arith),
       c .before .before .push2 .ensures
-          ∙ ap (put (a .packet .now) (a .at))
+          ∙ ap (putBits (a .packet .now) (a .at))
           (peeked-bits (a .payload .now) (a .from) (n .result) (c .before .before .before .before .before .peek .ensures) (omega arith)
           (c .before .before .before .before .low2 .ensures .0)),
     )

@@ -1,4 +1,0 @@
-pub mod Places
-pub mod Growing
-pub mod Settles
-pub mod Judging

@@ -1,0 +1,51 @@
+-- What a read of a number of variable length means, by document 01's "Bits and numbers" and its rules of refusing.
+use Prim.Native.Nat.{ℕ, zero, suc, _+_, _*_, _-_, _/_, _%_, _^_}
+use lib.Dec.{ltb, eqb}
+use lib.Count.{leadingZeros}
+use Rattle.bitio_window.specs.declared.Place.{Place}
+use Rattle.bitio_window.specs.Refusals.{endless, tooLarge, zeroMaximum}
+use Rattle.bitio_window.specs.Parse.{Parse, _>>=_, _>>_, give, refuseIf, readIf, place}
+use Rattle.bitio_window.specs.Reads.{sound, bits}
+
+-- "Packed: bytes of seven value bits, low bit meaning "more", least significant first, at most five. In the fifth byte refusal 2
+-- goes before 3."
+-- The first argument counts the bytes that may come before the fifth.
+unfoldable pub packedFrom : ℕ → Place → Parse ℕ
+packedFrom zero start = do
+  byte ← bits 8
+  refuseIf (eqb (byte % 2) 1) (endless start)
+  refuseIf (ltb 15 (byte / 2)) (tooLarge start)
+  give (byte / 2)
+packedFrom (suc n) start = do
+  byte ← bits 8
+  rest ← readIf (eqb (byte % 2) 1) 0 (packedFrom n start)
+  give (byte / 2 + 128 * rest)
+
+unfoldable pub packed : Parse ℕ
+packed = do
+  start ← place
+  packedFrom 4 start
+
+-- the floor of the binary logarithm of a number from 1 to 2 ^ 32 - 1
+unfoldable pub log2 : ℕ → ℕ
+log2 m = 31 - leadingZeros 32 m
+
+-- "Serialized with maximum m: let w be the floor of log2 m. Read w bits as v. If v + 2^w >= m, the answer is v; else one more bit
+-- adds 2^w."
+unfoldable pub serialized : ℕ → Parse ℕ
+serialized m = do
+  v ← bits (log2 m)
+  top ← readIf (ltb (v + 2 ^ log2 m) m) 0 (bits 1)
+  give (v + top * 2 ^ log2 m)
+
+-- "7 comes first, then 5, 6, 4, 15, then 1": the public calls
+unfoldable pub readPacked : Parse ℕ
+readPacked = do
+  sound
+  packed
+
+unfoldable pub readSerialized : ℕ → Parse ℕ
+readSerialized m = do
+  sound
+  refuseIf (eqb m 0) (zeroMaximum m)
+  serialized m

@@ -1,0 +1,5 @@
+pub mod Joining
+pub mod There
+pub mod Absent
+pub mod Meetings
+pub mod Handing

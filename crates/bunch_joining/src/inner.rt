@@ -1,0 +1,3 @@
+// The accumulator's calls past the test of the memory.
+pub mod adding;
+pub mod taking;

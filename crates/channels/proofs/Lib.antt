@@ -1,4 +1,0 @@
-pub mod Tracking
-pub mod Effects
-pub mod Retiring
-pub mod Kept

@@ -1,3 +1,0 @@
-pub mod Partials
-pub mod Judging
-pub mod Places

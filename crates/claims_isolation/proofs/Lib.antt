@@ -1,0 +1,16 @@
+pub mod Growing
+pub mod Weighing
+pub mod Cases
+pub mod Single
+pub mod Lasting
+pub mod Excepting
+pub mod Telling
+pub mod Places
+pub mod Alone
+pub mod Apart
+pub mod Orders
+pub mod Isolation
+pub mod Joining
+pub mod Chains
+pub mod Example
+pub mod Wrong

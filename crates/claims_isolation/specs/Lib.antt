@@ -1,0 +1,4 @@
+pub mod Ledger
+pub mod Runs
+pub mod Isolation
+pub mod Chains

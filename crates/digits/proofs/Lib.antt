@@ -1,5 +1,0 @@
-pub mod Texts
-pub mod Digits
-pub mod Back
-pub mod Signs
-pub mod Values

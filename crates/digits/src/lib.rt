@@ -1,2 +1,0 @@
-// Bytes and decimal numbers in a lent slice: the pieces of a line.
-pub mod inner;

@@ -1,4 +1,0 @@
-// The bit reader's calls for C and Rust: numbers and slices in, each answer as words (crates/answers).
-pub mod copies;
-pub mod reads;
-pub mod windows;

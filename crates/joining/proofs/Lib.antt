@@ -1,4 +1,0 @@
-pub mod Joining
-pub mod There
-pub mod Absent
-pub mod Meetings

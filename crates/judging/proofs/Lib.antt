@@ -1,5 +1,0 @@
-pub mod Displacing
-pub mod Judged
-pub mod Ledger
-pub mod Meeting
-pub mod Memory

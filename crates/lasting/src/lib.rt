@@ -1,1 +1,0 @@
-// What every call on the accumulator's lent memory keeps stands in proofs/: this crate has no code of its own.

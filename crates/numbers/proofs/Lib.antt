@@ -1,4 +1,0 @@
-pub mod Packed
-pub mod Serialized
-pub mod Logs
-pub mod Keeps

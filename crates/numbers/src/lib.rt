@@ -1,2 +1,0 @@
-// The reads of variable length, packed and serialized, in a window that has been tested. Follows vrf-bitio/src/lib.rs.
-pub mod inner;

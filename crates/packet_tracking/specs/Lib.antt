@@ -1,0 +1,6 @@
+pub mod Sequences
+pub mod SequenceColumns
+pub mod Fits
+pub mod Partials
+pub mod Verdicts
+pub mod PartialColumns

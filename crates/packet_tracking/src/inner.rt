@@ -1,0 +1,4 @@
+// The tables' edits, over columns that have been tested.
+pub mod partials;
+pub mod retire;
+pub mod sequences;

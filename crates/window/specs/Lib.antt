@@ -1,7 +1,0 @@
-pub mod Refusals
-pub mod Parse
-pub mod Reads
-pub mod Copies
-pub mod Windows
-pub mod Answers
-pub mod Sound
