@@ -14,16 +14,14 @@ macro_rules! loops {
     };
 }
 
-// The functions of the crates timing and timing_reader. Nothing checks these lines against their source.
+// The functions of the crate bench_bitio. Nothing checks these lines against their source.
 loops! {
     timing_read_bit(reads: u64);
     timing_read_bits(widths: *const u32, k: usize);
     timing_read_int_packed(reads: u64);
     timing_read_serialized_int(maxima: *const u32, k: usize);
     timing_copy(counts: *const u64, k: usize, target: *mut u8, m: usize);
-    timing_public_read_bits(widths: *const u32, k: usize);
     timing_reader_read_bits(widths: *const u32, k: usize);
-    timing_public_read_int_packed(reads: u64);
     timing_reader_read_int_packed(reads: u64);
 }
 
@@ -163,7 +161,6 @@ pub fn run(timing: &Timing) {
     let widths = |most| inputs::with_arguments(4096, move |random| 1 + random.below(most));
     bits_case(timing, "read_bits, loop, widths 1 to 64", widths(64), timing_read_bits);
     bits_case(timing, "read_bits, loop, widths 1 to 16", widths(16), timing_read_bits);
-    bits_case(timing, "read_bits, loop, public, widths 1 to 64", widths(64), timing_public_read_bits);
     bits_case(timing, "read_bits, loop, reader, widths 1 to 64", widths(64), timing_reader_read_bits);
     let short = |reads| inputs::packed(reads, inputs::realistic_length);
     packed_case(timing, "read_int_packed, loop, mostly 1 or 2 bytes", short(4096), timing_read_int_packed);
@@ -171,7 +168,6 @@ pub fn run(timing: &Timing) {
     packed_case(timing, "read_int_packed, loop, 1 to 5 bytes", every, timing_read_int_packed);
     // So long that a processor can't learn the branches by heart.
     packed_case(timing, "read_int_packed, loop, mostly 1 or 2, 65536", short(65536), timing_read_int_packed);
-    packed_case(timing, "read_int_packed, loop, public, mostly 1 or 2", short(4096), timing_public_read_int_packed);
     packed_case(timing, "read_int_packed, loop, reader, mostly 1 or 2", short(4096), timing_reader_read_int_packed);
     let mixed = inputs::with_arguments(4096, inputs::mixed_maximum);
     serialized_case(timing, "read_serialized_int, loop, mixed maxima", mixed);

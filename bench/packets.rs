@@ -11,7 +11,7 @@ use vrf_bitio::BitReader;
 use vrf_net::bunch::RawBunchHeader;
 use vrf_net::packet::RawPacketReader;
 
-// The crate timing's function: one bunch over tables that were tested. Nothing checks these lines against its source.
+// The crate bench_packet's function: one bunch over tables that were tested. Nothing checks these lines against its source.
 unsafe extern "C" {
     #[rustfmt::skip]
     fn timing_read_bunch(

@@ -1,11 +1,10 @@
 // The payload copy: the Rust's `copy_bits_to`.
 ghost use mathlib.Core.Path.{_≡_};
-ghost use Prim.Native.Nat.{_+_};
 ghost use lib.ListN.{length};
+ghost use Rattle.bitio_window.specs.Places.{packetBit};
 ghost use Rattle.bitio_window.specs.Copies.{copyBits, copyLeaves};
 ghost use Rattle.bitio_window.specs.Answers.{ofDone};
 use crate::windows;
-use bitio_bits::inner::masks;
 use bitio_window::BitError;
 use bitio_window::Done;
 use bitio_window::DoneRead;
@@ -40,7 +39,7 @@ fn judge(bytes: &[u8], w: Window, room: usize, count: u64) -> DoneRead
 pub fn copy_bits_to(bytes: &[u8], w: Window, target: &mut [u8], count: u64) -> DoneRead
     ensures answers { λ r. ⌜ ofDone r ≡ copyBits (length (now (target .entry))) count (now (bytes .entry)) w ⌝ }
     ensures leaves { λ r. ⌜
-        now (target .exit) ≡ copyLeaves (ofDone r) (now (target .entry)) (now (bytes .entry)) (w .start .0 + w .position .0) count
+        now (target .exit) ≡ copyLeaves (ofDone r) (now (target .entry)) (now (bytes .entry)) (packetBit w .0) count
         ⌝ }
 {
     let read = judge(bytes, w, target.len(), count);
@@ -48,10 +47,7 @@ pub fn copy_bits_to(bytes: &[u8], w: Window, target: &mut [u8], count: u64) -> D
     match answer {
         Done::Refused(_) => read,
         Done::Value => {
-            let start = w.start;
-            let position = w.position;
-            let masks = masks::table();
-            copy::copy_bits(bytes, &masks, start.0 + position.0, count, target);
+            copy::copy_bits(bytes, inner::packet_bit(w), count, target);
             read
         }
     }

@@ -8,7 +8,6 @@ ghost use Rattle.bitio_window.specs.Parse.{got};
 ghost use Rattle.bitio_bits.specs.Floats.{decoded};
 ghost use Rattle.bitio_window.specs.Answers.{ofBit, ofU8, ofU16, ofU32, ofI32, ofU64, ofF32, ofF64, f32Answer, f64Answer};
 use crate::windows;
-use bitio_bits::inner::masks;
 use bitio_bits::inner::signed;
 use bitio_window::Bit;
 use bitio_window::BitError;
@@ -58,8 +57,7 @@ pub fn read_bits(bytes: &[u8], w: Window, count: u32) -> U64Read
                     next: w,
                 };
             }
-            let masks = masks::table();
-            inner::bits(bytes, &masks, w, count)
+            inner::bits(bytes, w, count)
         }
     }
 }

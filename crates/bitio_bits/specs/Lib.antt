@@ -1,4 +1,3 @@
 pub mod Bits
 pub mod Floats
 pub mod Words
-pub mod Masks

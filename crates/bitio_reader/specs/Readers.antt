@@ -1,11 +1,12 @@
 -- A reader's place as a window, and what a read or a copy leaves of a reader.
 use mathlib.Core.Path.{_≡_}
-use Prim.Native.Nat.{ℕ, _+_}
+use Prim.Native.Nat.{ℕ}
 use mathlib.Core.List.{List}
 use lib.ListN.{length}
 use denote.Ref.{now}
 use Rattle.bitio_window.specs.declared.Window.{Window}
 use Rattle.bitio_window.specs.declared.Done.{Done}
+use Rattle.bitio_window.specs.Places.{packetBit}
 use Rattle.bitio_window.specs.Parse.{Answer, Parse}
 use Rattle.bitio_window.specs.Answers.{doneAnswer}
 use Rattle.bitio_window.specs.Copies.{copyBits, copyLeaves}
@@ -22,4 +23,4 @@ Moved of p before a after = (of a (windowOf after) ≡ p (now (before .packet)) 
 abbrev pub Copied : ℕ → BitReader → List ℕ → Done → BitReader → List ℕ → Type 0
 Copied n before target a after left =
     Moved doneAnswer (copyBits (length target) n) before a after
-    × (left ≡ copyLeaves (doneAnswer a (windowOf after)) target (now (before .packet)) (before .start .0 + before .position .0) n)
+    × (left ≡ copyLeaves (doneAnswer a (windowOf after)) target (now (before .packet)) (packetBit (windowOf before) .0) n)

@@ -1,7 +1,7 @@
 -- What a read of a number of variable length means, by document 01's "Bits and numbers" and its rules of refusing.
-use Prim.Native.Nat.{ℕ, zero, suc, _+_, _*_, _-_, _/_, _%_, _^_}
-use lib.Dec.{ltb, eqb}
-use lib.Count.{leadingZeros}
+use Prim.Native.Nat.{ℕ, zero, suc, _+_, _*_, _/_, _%_, _^_}
+use mathlib.Core.Bool.{cond}
+use lib.Dec.{leb, ltb, eqb}
 use Rattle.bitio_window.specs.declared.Place.{Place}
 use Rattle.bitio_window.specs.Refusals.{endless, tooLarge, zeroMaximum}
 use Rattle.bitio_window.specs.Parse.{Parse, _>>=_, _>>_, give, refuseIf, readIf, place}
@@ -26,9 +26,13 @@ packed = do
   start ← place
   packedFrom 4 start
 
--- the floor of the binary logarithm of a number from 1 to 2 ^ 32 - 1
+-- "the floor of log2 m": the largest w with 2 ^ w ≤ m, for an m from 1 to 2 ^ 32 - 1
+abbrev pub log2UpTo : ℕ → ℕ → ℕ
+log2UpTo zero m = 0
+log2UpTo (suc w) m = cond (leb (2 ^ suc w) m) (suc w) (log2UpTo w m)
+
 unfoldable pub log2 : ℕ → ℕ
-log2 m = 31 - leadingZeros 32 m
+log2 m = log2UpTo 31 m
 
 -- "Serialized with maximum m: let w be the floor of log2 m. Read w bits as v. If v + 2^w >= m, the answer is v; else one more bit
 -- adds 2^w."

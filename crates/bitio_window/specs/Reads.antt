@@ -6,6 +6,7 @@ use lib.Dec.{ltb, eqb}
 use lib.IntN.{ℤ}
 use lib.Ieee.{binary32, binary64}
 use Rattle.bitio_bits.specs.Bits.{bitsAt}
+use Rattle.bitio_window.specs.Places.{packetBit}
 use Rattle.bitio_window.specs.Refusals.{placeOf, tooFewBits, beyond, tooWide, tooLong}
 use Rattle.bitio_bits.specs.Floats.{Decoded, decoded, signed}
 use Rattle.bitio_window.specs.Parse.{got, Parse, _>>=_, _>>_, give, refuseIf, advanced}
@@ -40,7 +41,7 @@ need n d w = refuseIf (ltb (w .length - w .position .0) n) (tooFewBits (placeOf 
 
 -- the next n bits as a number, and the reader past them. "Width 0 reads nothing, even at the end."
 unfoldable pub bitsTaken : ℕ → Parse ℕ
-bitsTaken n d w = got (bitsAt d (w .start .0 + w .position .0) n) (advanced w n)
+bitsTaken n d w = got (bitsAt d (packetBit w .0) n) (advanced w n)
 
 unfoldable pub bits : ℕ → Parse ℕ
 bits n = do

@@ -5,6 +5,7 @@ use mathlib.Core.List.{List}
 use lib.Dec.{ltb, leb}
 use lib.ListN.{length}
 use Rattle.bitio_window.specs.declared.Window.{Window}
+use Rattle.bitio_window.specs.Places.{packetBit}
 use Rattle.bitio_window.specs.Refusals.{tooLong, beyond}
 use Rattle.bitio_window.specs.Parse.{Result, value, refusal, got, Parse, _>>_, advanced}
 use Rattle.bitio_window.specs.Reads.{largestData, sound, need, skip}
@@ -36,7 +37,7 @@ atEnd w = leb (w .length) (w .position .0)
 
 -- a window over the next n bits, which the reader passes
 abbrev pub child : Window → ℕ → Window
-child w n = record { start = record { 0 = w .start .0 + w .position .0 }; position = record { 0 = 0 }; length = n }
+child w n = record { start = packetBit w; position = record { 0 = 0 }; length = n }
 
 unfoldable pub handedOut : ℕ → Parse Window
 handedOut n d w = got (child w n) (advanced w n)

@@ -1,15 +1,14 @@
-// The reads of `bitio` of a given width, and its moves, for the project's own crates: what the tests before them show is required,
-// and the mask table is lent.
+// The reads of `bitio` of a given width, and its moves, for the project's own crates: what the tests before them show is required.
 ghost use mathlib.Core.Path.{_≡_};
 ghost use mathlib.Core.List.{List};
 ghost use Prim.Native.Nat.{ℕ, _+_, _-_, _≤_, _<_, _^_};
 ghost use lib.ListN.{length};
 ghost use Rattle.bitio_window.specs.Refusals.{placeOf, paper, tooFewBits};
 ghost use Rattle.bitio_window.specs.Parse.{advanced};
+ghost use Rattle.bitio_window.specs.Places.{packetBit};
 ghost use Rattle.bitio_window.specs.Reads.{skip, bit, bits};
 ghost use Rattle.bitio_window.specs.Answers.{ofDone, ofBit, ofU64, ofSub};
 ghost use Rattle.bitio_window.specs.Windows.{movedToEnd, sub};
-ghost use Rattle.bitio_bits.specs.Masks.{Masks};
 ghost use Rattle.bitio_window.specs.Sound.{Sound};
 use crate::Bit;
 use crate::BitError;
@@ -24,11 +23,20 @@ use crate::U64Read;
 use crate::Window;
 use crate::WindowBit;
 use crate::place_of;
-use bitio_bits::inner::masks::MaskTable;
-use bitio_bits::inner::words;
 
 pub mod copy;
 pub mod numbers;
+pub mod words;
+
+// The next bit's place in the packet.
+pub fn packet_bit(w: Window) -> PacketBit
+    requires { ⌜ w .start .0 + w .position .0 < 2 ^ 64 ⌝ }
+    ensures { λ r. ⌜ r ≡ packetBit w ⌝ }
+{
+    let start = w.start;
+    let position = w.position;
+    PacketBit(start.0 + position.0)
+}
 
 // The window, n bits on.
 pub fn advance(w: Window, n: u64) -> Window
@@ -90,7 +98,6 @@ pub fn sub(w: Window, count: u64) -> SubRead
     requires { ⌜ (w .position .0 ≤ w .length) × (w .start .0 + w .position .0 < 2 ^ 64) ⌝ }
     ensures { λ r. ⌜ ((d : List ℕ) → ofSub r ≡ sub count d w) ⌝ }
 {
-    let start = w.start;
     let position = w.position;
     if w.length - position.0 < count {
         return SubRead {
@@ -100,7 +107,7 @@ pub fn sub(w: Window, count: u64) -> SubRead
     }
     SubRead {
         answer: Opened::Value(Window {
-            start: PacketBit(start.0 + position.0),
+            start: packet_bit(w),
             position: WindowBit(0),
             length: count,
         }),
@@ -108,11 +115,10 @@ pub fn sub(w: Window, count: u64) -> SubRead
     }
 }
 
-pub fn bits(bytes: &[u8], masks: &MaskTable, w: Window, count: u32) -> U64Read
-    requires { ⌜ Sound (now bytes) w × (count ≤ 64) × Masks (now masks) ⌝ }
+pub fn bits(bytes: &[u8], w: Window, count: u32) -> U64Read
+    requires { ⌜ Sound (now bytes) w × (count ≤ 64) ⌝ }
     ensures { λ r. ⌜ (ofU64 r ≡ bits count (now (bytes .entry)) w) × Sound (now (bytes .entry)) (r .next) ⌝ }
 {
-    let start = w.start;
     let position = w.position;
     let n = count as u64;
     if w.length - position.0 < n {
@@ -122,7 +128,7 @@ pub fn bits(bytes: &[u8], masks: &MaskTable, w: Window, count: u32) -> U64Read
         };
     }
     U64Read {
-        answer: U64::Value(words::bits_at(bytes, masks, start.0 + position.0, count)),
+        answer: U64::Value(words::bits_at(bytes, packet_bit(w), n)),
         next: advance(w, n),
     }
 }
@@ -131,7 +137,6 @@ pub fn bit(bytes: &[u8], w: Window) -> BitRead
     requires { ⌜ Sound (now bytes) w ⌝ }
     ensures { λ r. ⌜ (ofBit r ≡ bit (now (bytes .entry)) w) × Sound (now (bytes .entry)) (r .next) ⌝ }
 {
-    let start = w.start;
     let position = w.position;
     if w.length - position.0 < 1 {
         return BitRead {
@@ -140,7 +145,7 @@ pub fn bit(bytes: &[u8], w: Window) -> BitRead
         };
     }
     BitRead {
-        answer: Bit::Value(words::bit_at(bytes, start.0 + position.0)),
+        answer: Bit::Value(words::bit_at(bytes, packet_bit(w))),
         next: advance(w, 1),
     }
 }

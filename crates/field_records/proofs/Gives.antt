@@ -14,6 +14,7 @@ use Rattle.bitio_window.specs.Refusals.{Refusal, tooLarge}
 use Rattle.bitio_window.specs.Parse.{Answer, got, refused, Parse, andThen, _>>=_, _>>_, give, refuse, refuseIf, readIf}
 use Rattle.bitio_window.specs.Reads.{bitsTaken, bits}
 use Rattle.bitio_window.specs.Numbers.{packedFrom, packed, log2, serialized}
+use Rattle.bitio_window.proofs.Logs.{log2-most}
 use Rattle.bitio_window.proofs.Rows.{not-refused}
 use Rattle.field_walking.specs.Records.{Looked, ends, abandons, finds, payload, counted, repLayout, call, classNetCache}
 
@@ -88,12 +89,12 @@ unfolding packed most
 gives-packed = gives-then any (λ start _. gives-packed-from 4 start)
 
 pub gives-serialized : (m : ℕ) → Gives (λ v. v < 2 ^ 32) (serialized m)
-unfolding serialized log2
+unfolding serialized
 gives-serialized m =
     gives-then (gives-bits (log2 m)) (λ v h. gives-then (gives-if (ltb (v + 2 ^ log2 m) m) 0 (omega arith) (gives-bits 1)) (λ top g. gives-give (v + top * 2 ^ log2 m) (below v top h g)))
   where
     half : 2 ^ log2 m ≤ 2 ^ 31
-    half = pow-mono {i = log2 m} {j = 31} (omega arith)
+    half = pow-mono {i = log2 m} {j = 31} (log2-most m)
 
     below : (v top : ℕ) → v < 2 ^ log2 m → top < 2 → v + top * 2 ^ log2 m < 2 ^ 32
     below v zero h g = omega (arith, h, half)

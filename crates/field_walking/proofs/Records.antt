@@ -3,6 +3,7 @@ use mathlib.Core.Path.{_≡_, sym, ap, _∙_}
 use mathlib.Core.List.{List}
 use Prim.Native.Nat.{ℕ, _+_, _-_, _≤_, _<_, max}
 use borrow.Author.Tests.{lt-ltb, le-ltb, le-leb, lt-leb, eq-eqb, ne-eqb}
+use Rattle.bitio_window.specs.Places.{packetBit}
 use Rattle.bitio_window.specs.declared.Window.{Window}
 use Rattle.bitio_window.specs.declared.BitError.{BitError}
 use Rattle.bitio_window.specs.declared.U32.{U32}
@@ -33,7 +34,7 @@ module _ (d : List ℕ) (w : Window) {u : Window} where
     overlong {n} e f = rw (e, lt-leb n (u .length - u .position .0) f)
 
     pub whole : {n : ℕ} → packed d w ≡ got n u → n ≤ u .length - u .position .0
-        → counted h d w ≡ got (finds (record { handle = h; «bit_count» = n; «in_window» = u .position; «in_packet» = record { 0 = u .start .0 + u .position .0 } })) (advanced u n)
+        → counted h d w ≡ got (finds (record { handle = h; «bit_count» = n; «in_window» = u .position; «in_packet» = packetBit u })) (advanced u n)
     unfolding counted remaining payload _>>=_ readIf
     whole {n} e f = rw (e, le-leb n (u .length - u .position .0) f)
 

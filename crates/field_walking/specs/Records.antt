@@ -1,9 +1,9 @@
 -- Document 01's "Records": what stands where a record is looked for.
-use Prim.Native.Nat.{ℕ, _+_, _-_, max}
+use Prim.Native.Nat.{ℕ, _-_, max}
 use mathlib.Core.Bool.{not}
 use lib.Dec.{ltb, leb, eqb}
-use Rattle.bitio_window.specs.declared.PacketBit.{PacketBit}
 use Rattle.bitio_window.specs.declared.Window.{Window}
+use Rattle.bitio_window.specs.Places.{packetBit}
 use Rattle.bitio_window.specs.Refusals.{paper}
 use Rattle.bitio_window.specs.Parse.{Answer, got, refused, Parse, _>>=_, readIf, advanced}
 use Rattle.bitio_window.specs.Numbers.{packed, serialized}
@@ -26,8 +26,7 @@ remaining d w = got (bitsLeft w) w
 
 unfoldable pub payload : ℕ → ℕ → Parse Looked
 payload handle n d w =
-    let start : PacketBit = record { 0 = w .start .0 + w .position .0 } in
-    got (finds (record { handle = handle; «bit_count» = n; «in_window» = w .position; «in_packet» = start })) (advanced w n)
+    got (finds (record { handle = handle; «bit_count» = n; «in_window» = w .position; «in_packet» = packetBit w })) (advanced w n)
 
 -- "packed count, payload"; "An overlong count abandons likewise in both."
 unfoldable pub counted : ℕ → Parse Looked

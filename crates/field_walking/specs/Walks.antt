@@ -39,7 +39,8 @@ walkedOn ps w (got abandons u) on = stopped ps (got (abandoned (bitsLeft w)) (mo
 walkedOn [] w (got (finds r) u) on = stopped [] (refused (listFull (placeOf w)) w)
 walkedOn (p ∷ ps) w (got (finds r) u) on = withRecord (recordNumbers r) (on ps u)
 
--- The second argument only bounds the recursion: each record reads at least eight bits.
+-- The second argument only bounds the recursion and never runs out: each record reads at least eight bits, and any two bounds above
+-- the bits that are left give the same walk (the law `any-bound` of proofs/Bounds.antt).
 unfoldable pub walk : Parse Looked → ℕ → List ℕ → List (List ℕ) → Window → Walked
 walk look zero d ps w = stopped ps (got ended w)
 walk look (suc n) d ps w = walkedOn ps w (look d w) (walk look n d)

@@ -16,7 +16,6 @@ use crate::Record;
 use crate::Stop;
 use crate::Walk;
 use bitio_window::BitError;
-use bitio_window::PacketBit;
 use bitio_window::U32;
 use bitio_window::Window;
 use bitio_window::inner;
@@ -80,7 +79,6 @@ fn counted(bytes: &[u8], w: Window, handle: u32) -> StepRead
             next,
         },
         U32::Value(n) => {
-            let start = next.start;
             let position = next.position;
             if next.length - position.0 < n as u64 {
                 return StepRead {
@@ -93,7 +91,7 @@ fn counted(bytes: &[u8], w: Window, handle: u32) -> StepRead
                     handle,
                     bit_count: n,
                     in_window: position,
-                    in_packet: PacketBit(start.0 + position.0),
+                    in_packet: inner::packet_bit(next),
                 }),
                 next: inner::advance(next, n as u64),
             }

@@ -10,12 +10,12 @@ ghost use Rattle.bitio_window.specs.Sound.{Sound};
 ghost use Rattle.packet_header.specs.Header.{fields, asHeader};
 ghost use Rattle.packet_header.specs.Row.{rowAfter, takenInRow, flagOf, numberOf, headerRead};
 use crate::BunchFields;
-use bitio_bits::inner::words;
 use bitio_window::Bit;
 use bitio_window::U32;
 use bitio_window::U32Read;
 use bitio_window::Window;
 use bitio_window::inner;
+use bitio_window::inner::words;
 use types::CHANNEL_CLOSE_REASON_MAX;
 use types::MAX_PACKET_SIZE_BITS;
 
@@ -179,10 +179,9 @@ pub fn read_fields(bytes: &[u8], w: Window) -> HeaderRead
     requires { ⌜ Sound (now bytes) w ⌝ }
     ensures { λ r. ⌜ headerRead r ≡ asHeader (fields (now (bytes .entry)) w) ⌝ }
 {
-    let start = w.start;
     let position = w.position;
     let left = w.length - position.0;
-    let quick = quick::fields_of(words::peek(bytes, start.0 + position.0));
+    let quick = quick::fields_of(words::peek(bytes, inner::packet_bit(w)));
     let rest = quick.rest;
     if (rest.used <= 57) & (rest.used <= left) {
         let fields = quick.fields;

@@ -4,10 +4,9 @@ ghost use Prim.Native.Nat.{_+_, _*_, _-_, _≤_};
 ghost use lib.ListN.{length};
 ghost use Rattle.bitio_window.specs.Copies.{copied};
 ghost use Rattle.bitio_bits.specs.Words.{stored};
-ghost use Rattle.bitio_bits.specs.Masks.{Masks};
 ghost use Rattle.bitio_window.specs.Reads.{largestData};
-use bitio_bits::inner::masks::MaskTable;
-use bitio_bits::inner::words;
+use crate::PacketBit;
+use crate::inner::words;
 
 // The m lowest bytes of a word.
 pub fn store(target: &mut [u8], at: usize, word: u64, m: usize)
@@ -23,22 +22,26 @@ pub fn store(target: &mut [u8], at: usize, word: u64, m: usize)
     }
 }
 
-pub fn copy_bits(bytes: &[u8], masks: &MaskTable, at: u64, count: u64, target: &mut [u8])
+pub fn copy_bits(bytes: &[u8], at: PacketBit, count: u64, target: &mut [u8])
     requires { ⌜
-        (count ≤ 8 * length (now bytes) - at)
+        (count ≤ 8 * length (now bytes) - at .0)
         × (count ≤ 8 * length (now target))
         × (length (now bytes) ≤ largestData)
-        × Masks (now masks)
         ⌝ }
-    ensures { λ r. ⌜ now (target .exit) ≡ copied (now (target .entry)) (now (bytes .entry)) at count ⌝ }
+    ensures { λ r. ⌜ now (target .exit) ≡ copied (now (target .entry)) (now (bytes .entry)) (at .0) count ⌝ }
 {
     let mut i: usize = 0;
     let mut left = count;
     while left >= 64 {
-        store(target, i, words::word_at(bytes, at + 8 * i as u64), 8);
+        store(
+            target,
+            i,
+            words::word_at(bytes, PacketBit(at.0 + 8 * i as u64)),
+            8,
+        );
         i += 8;
         left -= 64;
     }
-    let last = words::bits_at(bytes, masks, at + 8 * i as u64, left as u32);
+    let last = words::bits_at(bytes, PacketBit(at.0 + 8 * i as u64), left);
     store(target, i, last, ((left + 7) / 8) as usize);
 }

@@ -12,9 +12,11 @@ use crate::U32;
 use crate::U32Read;
 use crate::Window;
 use crate::inner::advance;
+use crate::inner::packet_bit;
 use crate::inner::too_few_bits;
+use crate::inner::words;
 use crate::place_of;
-use bitio_bits::inner::words;
+use bitio_bits::inner::masks;
 
 fn short_u32(w: Window, requested: u64) -> U32Read
     ensures { λ r. ⌜ (ofU32 r ≡ refused (tooFewBits (placeOf w) (w .length) requested) w) × (r .next ≡ w) ⌝ }
@@ -55,10 +57,9 @@ pub fn packed(bytes: &[u8], w: Window) -> U32Read
     requires { ⌜ Sound (now bytes) w ⌝ }
     ensures { λ r. ⌜ (ofU32 r ≡ packed (now (bytes .entry)) w) × Sound (now (bytes .entry)) (r .next) ⌝ }
 {
-    let start = w.start;
     let position = w.position;
     let mut left = w.length - position.0;
-    let mut rest = words::peek(bytes, start.0 + position.0);
+    let mut rest = words::peek(bytes, packet_bit(w));
     let mut value: u64 = 0;
     let mut scale: u64 = 1;
     let mut k: u64 = 0;
@@ -66,7 +67,7 @@ pub fn packed(bytes: &[u8], w: Window) -> U32Read
         if left < 8 {
             return short_u32(advance(w, 8 * k), 8);
         }
-        let byte = rest % 256;
+        let byte = masks::low(8, rest);
         let chunk = byte / 2;
         value += chunk * scale;
         if byte % 2 == 0 {
@@ -93,7 +94,6 @@ fn floor_log2(max: u32) -> u32
     31 - u32::leading_zeros(max)
 }
 
-// Not of the mask table: a remainder by it is one instruction.
 fn power(n: u32) -> u64
     requires { ⌜ n < 32 ⌝ }
     ensures { λ r. ⌜ (r ≡ 2 ^ n) × (0 < r) ⌝ }
@@ -114,7 +114,6 @@ pub fn serialized(bytes: &[u8], w: Window, max: u32) -> U32Read
     requires { ⌜ Sound (now bytes) w × (0 < max) ⌝ }
     ensures { λ r. ⌜ (ofU32 r ≡ serialized max (now (bytes .entry)) w) × Sound (now (bytes .entry)) (r .next) ⌝ }
 {
-    let start = w.start;
     let position = w.position;
     let left = w.length - position.0;
     let width = floor_log2(max);
@@ -122,9 +121,9 @@ pub fn serialized(bytes: &[u8], w: Window, max: u32) -> U32Read
     if left < n {
         return short_u32(w, n);
     }
-    let word = words::peek(bytes, start.0 + position.0);
+    let word = words::peek(bytes, packet_bit(w));
     let top = power(width);
-    let value = word % top;
+    let value = masks::low(n, word);
     if is_whole(value, top, max) {
         return U32Read {
             answer: U32::Value(value as u32),
@@ -135,7 +134,7 @@ pub fn serialized(bytes: &[u8], w: Window, max: u32) -> U32Read
         return short_u32(advance(w, n), 1);
     }
     U32Read {
-        answer: U32::Value((word % (2 * top)) as u32),
+        answer: U32::Value(masks::low(n + 1, word) as u32),
         next: advance(w, n + 1),
     }
 }

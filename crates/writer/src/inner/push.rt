@@ -5,9 +5,10 @@ ghost use lib.ListN.{length};
 ghost use Rattle.types.specs.Types.{longestPacketBits};
 ghost use Rattle.writer_spelling.specs.Bits.{bitsFrom, putBits};
 ghost use Rattle.writer_spelling.specs.Words.{spelt, Whole};
-use bitio_bits::inner::arithmetic::low;
-use bitio_bits::inner::words;
+use bitio_bits::inner::masks::low;
+use bitio_window::PacketBit;
 use bitio_window::inner::copy;
+use bitio_window::inner::words;
 use writer_spelling::inner::Bits;
 
 // A word's bits at bit `at`: the byte there is joined with what stands before the cursor.
@@ -17,7 +18,7 @@ pub fn push(packet: &mut [u8], at: u64, bits: Bits)
 {
     let place = (at / 8) as usize;
     let off = at % 8;
-    let kept = low(packet[place] as u64, off);
+    let kept = low(off, packet[place] as u64);
     copy::store(
         packet,
         place,
@@ -41,13 +42,13 @@ fn step(packet: &mut [u8], at: u64, payload: &[u8], from: u64, left: u64) -> u64
 {
     let off = at % 8;
     if left >= 64 {
-        let eight = words::word_at(payload, from);
+        let eight = words::word_at(payload, PacketBit(from));
         if off == 0 {
             copy::store(packet, (at / 8) as usize, eight, 8);
             return 64;
         }
         let filling = 64 - off;
-        let word = low(eight, filling);
+        let word = low(filling, eight);
         push(
             packet,
             at,
@@ -59,7 +60,7 @@ fn step(packet: &mut [u8], at: u64, payload: &[u8], from: u64, left: u64) -> u64
         return filling;
     }
     let count = least(left, 56 - off);
-    let word = low(words::peek(payload, from), count);
+    let word = low(count, words::peek(payload, PacketBit(from)));
     push(packet, at, Bits { word, count });
     count
 }

@@ -16,7 +16,7 @@ returns c =
 
 bits-requires : tie.Need-bits-requires
 bits-requires c κs =
-    (tested _ _ (c .before .before .before .before .before .test .ensures) (c .before .before .before .enum-told .given .1), c .before .before .if1 .left, c .before .table .ensures)
+    (tested _ _ (c .before .before .before .test .ensures) (c .before .enum-told .given .1), c .if1 .left)
 
 returns-2 : tie.Need-returns-2
 unfolding readBits
@@ -25,11 +25,9 @@ returns-2 c = stopped _ _ (c .before .before .before .test .ensures) _ (c .befor
 returns-3 : tie.Need-returns-3
 unfolding readBits
 returns-3 c =
-    let count = c .before .before .before .before .before .before .before .before .args .count in
+    let count = c .before .before .before .before .before .before .args .count in
     c .bits .ensures .0
-    ∙ sym
-    (went-on _ _ (c .before .before .before .before .before .before .test .ensures) _ (c .before .before .before .before .enum-told .given .1)
-    ∙ lets-on _ _ _ _ (le-ltb 64 count (c .before .before .before .if1 .left)))
+    ∙ sym (went-on _ _ (c .before .before .before .before .test .ensures) _ (c .before .before .enum-told .given .1) ∙ lets-on _ _ _ _ (le-ltb 64 count (c .before .if1 .left)))
 
 pub read-bits-spec : {M : Type 1} → statement M
-read-bits-spec = tie.close (tie.spec (λ c κs. search needs) (λ c. search needs) (λ c. search needs) returns (λ c κs. search needs) bits-requires returns-2 returns-3)
+read-bits-spec = tie.close (tie.spec (λ c κs. search needs) (λ c. search needs) (λ c. search needs) returns bits-requires returns-2 returns-3)
