@@ -14,7 +14,7 @@ macro_rules! loops {
     };
 }
 
-// The functions of the crate bench_bitio. Nothing checks these lines against their source.
+// The functions of the crates bench_bitio and bench_reader. Nothing checks these lines against their source.
 loops! {
     timing_read_bit(reads: u64);
     timing_read_bits(widths: *const u32, k: usize);

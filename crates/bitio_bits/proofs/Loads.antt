@@ -2,14 +2,14 @@
 use mathlib.Core.Path.{_≡_, ap, sym, _∙_, subst}
 use mathlib.Core.List.{List}
 use Prim.Native.Nat.{ℕ, suc, _+_, _*_, _-_, _/_, _%_, _^_, _≤_, _<_}
-use native.Mathlib.Nat.{mod-lt, mod-eq-of-lt, lt-of-le-of-lt, add-comm, mul-mod-left, add-zero, div-one}
+use native.Mathlib.Nat.{mod-lt, mod-eq-of-lt, div-eq-of-lt, lt-of-le-of-lt, lt-of-lt-of-le, add-comm, mul-mod-left, add-zero, div-one}
 use native.Mathlib.Numerals.{add-one}
 use native.Mathlib.Omega.{arith}
-use lib.ListN.{getD}
-use lib.Pow.{shr-le, shr-shr, field, mod-pow-add, shl-shr, pow-pos}
+use lib.ListN.{length, getD}
+use lib.Pow.{shr-le, shr-lt, shr-shr, field, mod-pow-add, shl-shr, pow-pos, pow-mono}
 use Rattle.bitio_bits.specs.Bits.{bitsAt}
 use Rattle.bitio_bits.specs.Words.{eightAt, Peeked}
-use Rattle.bitio_bits.proofs.Numbers.{Bytes, from, cut, cut-low, from-step, from-bit, number, bits-number}
+use Rattle.bitio_bits.proofs.Numbers.{Bytes, number-lt, from, cut, cut-low, from-step, from-bit, number, bits-number}
 
 module _ (d : List ℕ) (b : Bytes d) (i : ℕ) where
   at : (j : ℕ) → from d (i + j) ≡ getD d (i + j) 0 + 256 * from d (i + (j + 1))
@@ -32,6 +32,20 @@ module _ (d : List ℕ) (b : Bytes d) (i : ℕ) where
 
   pub ninth : from d i / 2 ^ 64 % 2 ^ 8 ≡ getD d (i + 8) 0
   ninth = let q : from d i / 2 ^ 64 ≡ from d (i + 8) = omega (arith, eight-lt, whole) in omega (arith, at 8, small 8)
+
+-- the data ends: nothing is left from there on
+pub from-end : (d : List ℕ) → Bytes d → (i : ℕ) → length d ≤ i → from d i ≡ 0
+from-end d b i h = div-eq-of-lt (lt-of-lt-of-le (number-lt d b) (pow-mono {i = 8 * length d} {j = 8 * i} (omega arith)))
+
+-- at most seven bytes make a number of 56 bits
+pub few-bytes : (d : List ℕ) → Bytes d → (i : ℕ) → i ≤ length d → length d < i + 8 → from d i < 2 ^ 56
+few-bytes d b i h f =
+    let e : 8 * length d ≡ 8 * (length d - i) + 8 * i = omega arith in
+    lt-of-lt-of-le (shr-lt (8 * (length d - i)) (8 * i) (rw e at (number-lt d b))) (pow-mono {i = 8 * (length d - i)} {j = 56} (omega arith))
+
+-- with fewer than eight bytes left the load is all of them
+pub last-eight : (d : List ℕ) (b : Bytes d) (i : ℕ) → length d < i + 8 → from d i ≡ eightAt d i
+last-eight d b i h = omega (arith, whole d b i, from-end d b (i + 8) (omega arith))
 
 -- 64 bits of x from bit o on: those of its low word, and above them those of the byte that follows
 joined : (x o g : ℕ) → o + g ≡ 64 → o ≤ 8 → x % 2 ^ 64 / 2 ^ o + (x / 2 ^ 64 % 2 ^ 8) * 2 ^ g % 2 ^ 64 ≡ x / 2 ^ o % 2 ^ 64

@@ -5,8 +5,8 @@ use Prim.Native.Nat.{ℕ, zero, suc, _+_, _*_, _-_, _/_, _%_, _^_, _≤_, _<_}
 use native.Mathlib.Nat.{mod-one, add-zero, zero-add, suc-add, one-mul, add-comm, mul-comm, mul-assoc, pow-succ', zero-div, div-one, pow-suc}
 use native.Mathlib.Numerals.{add-one}
 use native.Mathlib.Omega.{arith}
-use lib.ListN.{getD}
-use lib.Pow.{high, low, shr-shr, field, mod-pow-add, mod-mod-pow}
+use lib.ListN.{length, getD}
+use lib.Pow.{pow-add, high, low, shr-shr, field, mod-pow-add, mod-mod-pow}
 use Rattle.bitio_bits.specs.Bits.{bitAt, bitsAt}
 
 pub bits-lt : (d : List ℕ) (k n : ℕ) → bitsAt d k n < 2 ^ n
@@ -47,6 +47,13 @@ number (x ∷ xs) = x + 256 * number xs
 
 abbrev pub Bytes : List ℕ → Type 0
 Bytes d = (i : ℕ) → getD d i 0 < 256
+
+pub number-lt : (d : List ℕ) → Bytes d → number d < 2 ^ (8 * length d)
+unfolding number
+number-lt [] b = omega arith
+number-lt (x ∷ xs) b =
+    let e : 8 * length (x ∷ xs) ≡ 8 * length xs + 8 = omega arith in
+    rw (e, pow-add 2 (8 * length xs) 8) (omega (arith, b 0, number-lt xs (λ i. b (suc i))))
 
 -- the data from byte i on
 abbrev pub from : List ℕ → ℕ → ℕ

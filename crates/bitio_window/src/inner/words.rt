@@ -14,16 +14,6 @@ fn byte(x: u8) -> u64
     x as u64
 }
 
-// The byte at `at`, 0 past the end.
-fn byte_or_zero(bytes: &[u8], at: usize) -> u64
-    ensures { λ r. ⌜ (r ≡ getD (now (bytes .entry)) at 0) × (r < 256) ⌝ }
-{
-    if at < bytes.len() {
-        return byte(bytes[at]);
-    }
-    0
-}
-
 // Arithmetic, and no shifts: it compiles to one load of eight bytes.
 fn eight(bytes: &[u8], at: usize) -> u64
     requires { ⌜ at + 8 ≤ length (now bytes) ⌝ }
@@ -39,18 +29,18 @@ fn eight(bytes: &[u8], at: usize) -> u64
         + 72057594037927936 * byte(bytes[at + 7])
 }
 
+// Fewer than eight are left, or none. A loop, since few loads run out of the data: it keeps the others short.
 fn eight_padded(bytes: &[u8], at: usize) -> u64
-    requires { ⌜ at < 2 ^ 61 ⌝ }
+    requires { ⌜ length (now bytes) < at + 8 ⌝ }
     ensures { λ r. ⌜ r ≡ eightAt (now (bytes .entry)) at ⌝ }
 {
-    byte_or_zero(bytes, at)
-        + 256 * byte_or_zero(bytes, at + 1)
-        + 65536 * byte_or_zero(bytes, at + 2)
-        + 16777216 * byte_or_zero(bytes, at + 3)
-        + 4294967296 * byte_or_zero(bytes, at + 4)
-        + 1099511627776 * byte_or_zero(bytes, at + 5)
-        + 281474976710656 * byte_or_zero(bytes, at + 6)
-        + 72057594037927936 * byte_or_zero(bytes, at + 7)
+    let mut word: u64 = 0;
+    let mut i = bytes.len();
+    while i > at {
+        i -= 1;
+        word = 256 * word + byte(bytes[i]);
+    }
+    word
 }
 
 // The eight bytes from `at` on as one number, zeros past the end.

@@ -3,10 +3,10 @@ use Prim.Native.Nat.{_-_}
 use lib.ListN.{length, getD}
 use borrow.Author.Needs.{needs}
 use Rattle.bitio_window.specs.Reads.{readBits}
 use Rattle.bench_bitio.specs.Sums.{bitsSum}
 use Rattle.bench_bitio.proofs.Rows.{Summing, no-sum, adds, ends, summed}
-use Rattle.bench_bitio.proofs.timing_reader_read_bits.Statement.{statement}
-use Rattle.bench_bitio.proofs.timing_reader_read_bits.Tie as tie
+use Rattle.bench_reader.proofs.timing_reader_read_bits.Statement.{statement}
+use Rattle.bench_reader.proofs.timing_reader_read_bits.Tie as tie
 
 abbrev Inv-loop : tie.InvT-loop
 Inv-loop bytes start position size widths w₀ sum₀ k₀ w sum k = Summing (λ v. v) (λ i. readBits (getD widths i 0)) (length widths) bytes (bitsSum widths bytes w₀) k sum w

@@ -2,10 +2,10 @@
 use Prim.Native.Nat.{_-_}
 use borrow.Author.Needs.{needs}
 use Rattle.bitio_window.specs.Numbers.{readPacked}
 use Rattle.bench_bitio.specs.Sums.{packedSum}
 use Rattle.bench_bitio.proofs.Rows.{Summing, no-sum, adds, ends, summed}
-use Rattle.bench_bitio.proofs.timing_reader_read_int_packed.Statement.{statement}
-use Rattle.bench_bitio.proofs.timing_reader_read_int_packed.Tie as tie
+use Rattle.bench_reader.proofs.timing_reader_read_int_packed.Statement.{statement}
+use Rattle.bench_reader.proofs.timing_reader_read_int_packed.Tie as tie
 
 abbrev Inv-loop : tie.InvT-loop
 Inv-loop bytes start position size n w₀ sum₀ k₀ w sum k = Summing (λ v. v) (λ i. readPacked) n bytes (packedSum n bytes w₀) k sum w
