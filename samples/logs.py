@@ -1,7 +1,8 @@
 #!/usr/bin/env python3
 """Makes packet logs: logs.py DIR writes the test logs of samples/logs/ anew; logs.py --large BYTES FILE makes one long log.
 
-Their listings (.txt) are the Rust's own: oracle/listing/run --write."""
+Their listings (.txt) are the Rust's own: oracle/listing/run --write. A .joined has what the programs of the front pages must tell of
+a log (samples/joining)."""
 import os
 import random
 import struct
@@ -164,6 +165,12 @@ def fragments(order):
     return log([sent[k] for k in order])
 
 
+# Two reliable messages of two fragments each, without the packets of the first one's final and the second one's initial: what is
+# left is one message.
+def two_halves():
+    return log([(3001, packet((3, "RPI-", text(b"half of one, ")))), (3004, packet((3, "RP-F", text(b"half of another"))))])
+
+
 # An unreliable message, one of its packets twice: a sequence may also be equal to the one before.
 def equal_ids():
     middle = (8, packet((3, "-P--", text(b"two,"))))
@@ -203,6 +210,7 @@ def samples():
         "match_1002_twice": log([record for record in match() for _ in range(1 + (record[0] == 1002))]),
         "fragments_in_order": fragments((0, 1, 2, 3, 4)),
         "fragments_exchanged": fragments((0, 2, 1, 3, 4)),
+        "two_halves": two_halves(),
         "equal_ids": equal_ids(),
         "reopened": two_lives(("R---", {"opens": True}), ("R---", text(b"plain"))),
         "reopened_unseen": two_lives(("R---",), ("R---", text(b"plain"))),
