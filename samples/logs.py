@@ -216,6 +216,8 @@ def samples():
         "reopened_unseen": two_lives(("R---",), ("R---", text(b"plain"))),
         "opened_over": opened_over(),
         "opening_and_closing": opening_and_closing(),
+        # Its initial is refused for its bits, which the packet reader's tracking doesn't look at: to that, the whole message is an error.
+        "off_the_byte": log([(1, packet((3, "RPI-", {"bits": 5}))), (2, packet((3, "RPIF", text(b"whole"))))]),
         "example": EXAMPLE,
         "empty": b"",
         "version_alone": b"\x01",

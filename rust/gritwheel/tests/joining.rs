@@ -25,7 +25,7 @@ fn what_is_right() {
             count += 1;
         }
     }
-    assert_eq!(count, 11);
+    assert_eq!(count, 12);
 }
 
 /// Where a log is cut, what is held is told, and then the cut.
