@@ -5,6 +5,7 @@ ghost use lib.Dec.{leb};
 ghost use Rattle.bitio_window.specs.Refusals.{placeOf, tooFewBits, endless, tooLarge};
 ghost use Rattle.bitio_window.specs.Parse.{refused, advanced};
 ghost use Rattle.bitio_window.specs.Numbers.{packed, log2, serialized};
+ghost use Rattle.bitio_window.specs.Widths.{serializedWidth};
 ghost use Rattle.bitio_window.specs.Answers.{ofU32};
 ghost use Rattle.bitio_window.specs.Sound.{Sound};
 use crate::BitError;
@@ -16,6 +17,7 @@ use crate::inner::packet_bit;
 use crate::inner::too_few_bits;
 use crate::inner::words;
 use crate::place_of;
+use bitio_bits::inner::arithmetic::only_if;
 use bitio_bits::inner::masks;
 
 fn short_u32(w: Window, requested: u64) -> U32Read
@@ -107,6 +109,17 @@ fn is_whole(value: u64, top: u64, max: u32) -> bool
     ensures { λ r. ⌜ r ≡ leb max (value + top) ⌝ }
 {
     value + top >= max as u64
+}
+
+// How many bits a number takes whose lowest bits are the word's: for what reads it from a word, and for what writes it.
+pub fn serialized_width(word: u64, max: u32) -> u64
+    requires { ⌜ 0 < max ⌝ }
+    ensures { λ r. ⌜ (r ≡ serializedWidth max word) × (r ≤ 32) ⌝ }
+{
+    let width = floor_log2(max);
+    let top = power(width);
+    let whole = is_whole(word % top, top, max);
+    width as u64 + only_if(!whole, 1)
 }
 
 // Both reads are fields of one peeked word; with the second they are one field.

@@ -6,12 +6,14 @@ ghost use Prim.Native.Nat.{_+_, _≤_, _<_};
 ghost use Rattle.bitio_window.specs.Parse.{readIf};
 ghost use Rattle.bitio_window.specs.Reads.{bit};
 ghost use Rattle.bitio_window.specs.Numbers.{packed, serialized};
-ghost use Rattle.types.specs.Types.{closeReasonMaximum, payloadMaximum};
 ghost use Rattle.packet_header.specs.Header.{fields};
 ghost use Rattle.packet_header.specs.Word.{Reads, shifted};
 use crate::BunchFields;
 use bitio_bits::inner::arithmetic::low;
 use bitio_bits::inner::arithmetic::only_if;
+use bitio_window::inner::numbers::serialized_width;
+use types::CHANNEL_CLOSE_REASON_MAX;
+use types::MAX_PACKET_SIZE_BITS;
 
 // What is left of the word, and how many of its bits were used.
 pub struct Rest {
@@ -69,27 +71,15 @@ fn packed(q: Rest, wanted: bool) -> QuickNumber
     }
 }
 
-// Only 7 has no fourth bit: with one it would be 15, the maximum.
-fn reason(q: Rest, wanted: bool) -> QuickNumber
-    requires { ⌜ q .used ≤ 1024 ⌝ }
-    ensures { λ r. ⌜ Reads (readIf wanted 0 (serialized closeReasonMaximum)) q (r .value) (r .rest) × (r .rest .used ≤ q .used + 4) ⌝ }
+// One field, of as many bits as its lowest ones say.
+fn serialized(q: Rest, wanted: bool, max: u32) -> QuickNumber
+    requires { ⌜ (q .used ≤ 1024) × (0 < max) ⌝ }
+    ensures { λ r. ⌜ Reads (readIf wanted 0 (serialized max)) q (r .value) (r .rest) × (r .rest .used ≤ q .used + 32) ⌝ }
 {
-    let fourth = wanted & (q.word % 8 < 7);
-    let width = only_if(wanted, 3) + only_if(fourth, 1);
+    let width = only_if(wanted, serialized_width(q.word, max));
     QuickNumber {
-        value: low(q.word % 16, width) as u32,
+        value: low(q.word, width) as u32,
         rest: pass(q, width),
-    }
-}
-
-// The maximum is a power of two, so no further bit is read.
-fn count(q: Rest) -> QuickNumber
-    requires { ⌜ q .used ≤ 1024 ⌝ }
-    ensures { λ r. ⌜ Reads (serialized payloadMaximum) q (r .value) (r .rest) × (r .rest .used ≤ q .used + 14) ⌝ }
-{
-    QuickNumber {
-        value: (q.word % 16384) as u32,
-        rest: pass(q, 14),
     }
 }
 
@@ -100,7 +90,7 @@ pub fn fields_of(word: u64) -> QuickFields
     let control = flag(whole, true);
     let b_open = flag(control.rest, control.value);
     let b_close = flag(b_open.rest, control.value);
-    let reason = reason(b_close.rest, b_close.value);
+    let reason = serialized(b_close.rest, b_close.value, CHANNEL_CLOSE_REASON_MAX);
     let paused = flag(reason.rest, true);
     let reliable = flag(paused.rest, true);
     let channel = packed(reliable.rest, true);
@@ -113,7 +103,7 @@ pub fn fields_of(word: u64) -> QuickFields
     let named = reliable.value | b_open.value;
     let hardcoded = flag(last.rest, named);
     let name = packed(hardcoded.rest, named);
-    let count = count(name.rest);
+    let count = serialized(name.rest, true, MAX_PACKET_SIZE_BITS);
     let rest = count.rest;
     QuickFields {
         fields: BunchFields {
