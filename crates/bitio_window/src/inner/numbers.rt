@@ -117,9 +117,9 @@ pub fn serialized_width(word: u64, max: u32) -> u64
     ensures { λ r. ⌜ (r ≡ serializedWidth max word) × (r ≤ 32) ⌝ }
 {
     let width = floor_log2(max);
-    let top = power(width);
-    let whole = is_whole(word % top, top, max);
-    width as u64 + only_if(!whole, 1)
+    let n = width as u64;
+    let whole = is_whole(masks::low(n, word), power(width), max);
+    n + only_if(!whole, 1)
 }
 
 // Both reads are fields of one peeked word; with the second they are one field.

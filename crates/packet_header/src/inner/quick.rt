@@ -9,8 +9,8 @@ ghost use Rattle.bitio_window.specs.Numbers.{packed, serialized};
 ghost use Rattle.packet_header.specs.Header.{fields};
 ghost use Rattle.packet_header.specs.Word.{Reads, shifted};
 use crate::BunchFields;
-use bitio_bits::inner::arithmetic::low;
 use bitio_bits::inner::arithmetic::only_if;
+use bitio_bits::inner::masks::low;
 use bitio_window::inner::numbers::serialized_width;
 use types::CHANNEL_CLOSE_REASON_MAX;
 use types::MAX_PACKET_SIZE_BITS;
@@ -64,9 +64,9 @@ fn packed(q: Rest, wanted: bool) -> QuickNumber
     let second = wanted & (q.word % 2 == 1);
     let third = second & (q.word / 256 % 2 == 1);
     let width = only_if(wanted, 8) + only_if(second, 8) + only_if(third, 47);
-    let bytes = low(q.word, width);
+    let bytes = low(width, q.word);
     QuickNumber {
-        value: (bytes / 2 % 128 + bytes / 512 % 128 * 128) as u32,
+        value: (low(7, bytes / 2) + low(7, bytes / 512) * 128) as u32,
         rest: pass(q, width),
     }
 }
@@ -78,7 +78,7 @@ fn serialized(q: Rest, wanted: bool, max: u32) -> QuickNumber
 {
     let width = only_if(wanted, serialized_width(q.word, max));
     QuickNumber {
-        value: low(q.word, width) as u32,
+        value: low(width, q.word) as u32,
         rest: pass(q, width),
     }
 }
