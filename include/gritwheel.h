@@ -13,6 +13,40 @@
  *
  * "Document 01" is the paper that fixes each answer. Bit k is bit k mod 8, lowest first, of byte k div 8. Signed numbers
  * stand in a word as their two's complement of 32 bits: (int32_t)(uint32_t)word. Flags are 0 or 1.
+ *
+ * From packets to messages: what a program does with each bunch, in this order. joining.c (in include/examples; installed, in
+ * share/gritwheel/examples) is the whole program, from a packet log to its messages; `told` prints a line.
+ *
+ *     static void bunch(joining *j, uint64_t *header, uint64_t bits, const uint8_t *bytes) {
+ *         uint32_t channel = (uint32_t)header[GRITWHEEL_H_CH_INDEX];
+ *         bool opens = header[GRITWHEEL_H_B_OPEN], partial = header[GRITWHEEL_H_B_PARTIAL];
+ *         bool closes = header[GRITWHEEL_H_B_CLOSE] && !header[GRITWHEEL_H_B_DORMANT];
+ *         if (opens)
+ *             retire(j, channel, "its channel opened anew");
+ *         if (header[GRITWHEEL_H_HAS_CHANNEL_LIMIT_ERROR])
+ *             told("refused", channel, bits, bytes, "too many channels");
+ *         else if (partial)
+ *             fragment(j, channel, header, bits, bytes);
+ *         else
+ *             told("message", channel, bits, bytes, "");
+ *         if (closes)
+ *             retire(j, channel, "its channel closed");
+ *     }
+ *
+ *   - `retire` calls gritwheel_retire_channel and tells what it hands out, an unfinished message, as lost. The accumulator goes
+ *     by sequences, and knows of no channel that it was closed or opened. After a close that isn't dormant the packet reader
+ *     counts the channel's sequences anew, so a fragment of its next life may have just the number that a message of the life
+ *     before waits for. A close comes last: the bunch that closes a channel may end its message.
+ *   - `fragment` clears the packet reader's two flags, calls gritwheel_add_fragment, tells what was displaced or refused, and
+ *     takes a message that is finished. Any other bunch is a message itself; handed in, it would be judged as a continuation,
+ *     and join or displace what is held. A bunch with the limit flag has no sequence by which it could be judged.
+ *   - At the log's end gritwheel_drain_unfinished hands out what is left, which is lost too.
+ *
+ * What this can't see: the reader takes packets in the order in which it is given them, and a reliable bunch has no sequence
+ * in its packet, the reader counts it. So on a reliable channel packets that are missing, there twice or in another order
+ * leave no gap: a message is joined without a middle fragment, with one twice, with two exchanged, or of the halves of two
+ * messages. An unreliable fragment has its packet's id as its sequence: there a gap in the ids is refused, but a middle
+ * fragment that is there twice is joined twice. Nothing else speaks of such packets but their ids.
  */
 #ifndef GRITWHEEL_H
 #define GRITWHEEL_H
@@ -370,8 +404,9 @@ enum gritwheel_displaced {
 enum gritwheel_limit { GRITWHEEL_LIMIT_NONE = 0, GRITWHEEL_ACTIVE_STATES = 1, GRITWHEEL_BUFFERED_BITS = 2 };
 
 /* Adds a fragment of `bits` bits on a channel. 10, 11, 12, 13. The channel is `ch_index`; the header's own channel, count and
- * partial flag aren't looked at. A caller that hands on the packet reader's header clears GRITWHEEL_H_HAS_PARTIAL_ERROR and
- * GRITWHEEL_H_IS_PARTIAL_COMPLETED first: that reader's tracking is advice, and a final with the error flag is discarded. */
+ * partial flag aren't looked at. A caller that hands on the packet reader's bunches hands on those with GRITWHEEL_H_B_PARTIAL
+ * alone, and clears GRITWHEEL_H_HAS_PARTIAL_ERROR and GRITWHEEL_H_IS_PARTIAL_COMPLETED first: that reader's tracking is advice,
+ * and a final with the error flag is discarded. */
 void gritwheel_add_fragment(size_t max_active, uint64_t max_buffered_bits, size_t active, uint64_t total, uint32_t ch_index,
                             const uint64_t header[GRITWHEEL_HEADER_WORDS], const uint8_t *payload, size_t n, uint64_t bits,
                             uint32_t *channels, size_t i, gritwheel_place *places, size_t j, uint8_t *arena, size_t k,
@@ -388,7 +423,8 @@ enum gritwheel_handed {
     GRITWHEEL_HANDED_WORDS = 26
 };
 
-/* Takes a channel's finished message; takes whatever the channel holds, finished or not. 10, 13. */
+/* Takes a channel's finished message; takes whatever the channel holds, finished or not. 10, 13. The second is to be called
+ * before a bunch that opens the channel, and after one that closes it and isn't dormant. */
 void gritwheel_take_completed(size_t max_active, uint64_t max_buffered_bits, size_t active, uint64_t total, uint32_t ch_index,
                               uint32_t *channels, size_t i, gritwheel_place *places, size_t j, uint8_t *arena, size_t k,
                               uint8_t *output, size_t l, uint64_t out[GRITWHEEL_HANDED_WORDS]);
@@ -412,8 +448,9 @@ enum gritwheel_drained {
     GRITWHEEL_DRAINED_WORDS = 6
 };
 
-/* Empties the accumulator: unfinished messages go to the list and the output by ascending channel, finished ones are dropped.
- * 10, 13, 14 (the places needed). Channels, places and arena stay as they are: nothing in them counts afterwards. */
+/* Empties the accumulator: unfinished messages go to the list and the output by ascending channel. Finished ones that nobody
+ * took are dropped without a word: they stand in no answer and no count. 10, 13, 14 (the places needed). Channels, places and
+ * arena stay as they are: nothing in them counts afterwards. */
 void gritwheel_drain_unfinished(size_t max_active, uint64_t max_buffered_bits, size_t active, uint64_t total,
                                 const uint32_t *channels, size_t i, const gritwheel_place *places, size_t j,
                                 const uint8_t *arena, size_t k, uint8_t *output, size_t l, gritwheel_listed *list, size_t m,

@@ -1,7 +1,8 @@
 #!/usr/bin/env python3
 """Makes packet logs: logs.py DIR writes the test logs of samples/logs/ anew; logs.py --large BYTES FILE makes one long log.
 
-Their listings (.txt) are the Rust's own: oracle/listing/run --write."""
+Their listings (.txt) are the Rust's own: oracle/listing/run --write. A .joined has what the programs of the front pages must tell of
+a log (samples/joining)."""
 import os
 import random
 import struct
@@ -139,7 +140,7 @@ EXAMPLE = bytes.fromhex("01 0005 00000007 300004A034 0006 00000008 04A001000001"
 
 # A match: two channels open, a message in three fragments, one that loses its end, a damaged packet, a close.
 def match():
-    return log([
+    return [
         (1000, packet((0, "R---", {"bits": 96, "opens": True}), (3, "R---", {"bits": 160, "opens": True}))),
         (1001, packet((3, "RPI-", {"bits": 800}))),
         (1002, packet((3, "RP--", {"bits": 800}), (5, "----", {"bits": 21}))),
@@ -149,13 +150,74 @@ def match():
         (1006, packet((5, "-P-F", {"bits": 64}), (0, "R---", {"bits": 8}))),
         (1007, packet((3, "R---", {"bits": 0, "close": 0}))),
         (1008, packet((3, "R---", {"bits": 40, "opens": True}))),
+    ]
+
+
+def text(words, **rest):
+    return {"bits": 8 * len(words), "data": int.from_bytes(words, "little"), **rest}
+
+
+# A reliable message in five fragments of equally many bits: whether two of them are exchanged, their ids alone say.
+def fragments(order):
+    flags = ("RPI-", "RP--", "RP--", "RP--", "RP-F")
+    words = (b"alpha,", b"bravo,", b"gamma,", b"delta,", b"omega.")
+    sent = [(2001 + k, packet((3, flags[k], text(words[k])))) for k in range(5)]
+    return log([sent[k] for k in order])
+
+
+# Two reliable messages of two fragments each, without the packets of the first one's final and the second one's initial: what is
+# left is one message.
+def two_halves():
+    return log([(3001, packet((3, "RPI-", text(b"half of one, ")))), (3004, packet((3, "RP-F", text(b"half of another"))))])
+
+
+# An unreliable message, one of its packets twice: a sequence may also be equal to the one before.
+def equal_ids():
+    middle = (8, packet((3, "-P--", text(b"two,"))))
+    return log([(7, packet((3, "-PI-", text(b"one,")))), middle, middle, (9, packet((3, "-P-F", text(b"three"))))])
+
+
+# A channel's first life ends before its message does. The second has a final with just the sequence that the first one's initial
+# waits for; its own initial isn't there. `second` are the bunches of the second life before that final.
+def two_lives(*second):
+    first = [("R---", {"opens": True}), ("RPI-", text(b"FIRST:")), ("R---", {"close": 0})]
+    bunches = [*first, *second, ("RP-F", text(b"OTHER"))]
+    return log([(number, packet((3, *bunch))) for number, bunch in enumerate(bunches, 1)])
+
+
+# An unreliable initial; in the next packet a reliable bunch that opens the channel, and an unreliable final.
+def opened_over():
+    opens = ((3, "R---", {"opens": True}), (3, "-P-F", text(b"OTHER")))
+    return log([(1, packet((3, "-PI-", text(b"FIRST:")))), (2, packet(*opens))])
+
+
+# Fragments that open or close their channel themselves. A final that closes ends its message (3); an initial that closes has none
+# (4), nor has a final that opens (5). A dormant close ends nothing (6).
+def opening_and_closing():
+    return log([
+        (1, packet((3, "RPI-", text(b"whole ", opens=True)), (5, "RPI-", text(b"FIRST:")), (6, "-PI-", text(b"still ")))),
+        (2, packet((3, "RP-F", text(b"at once", close=0)), (4, "RPI-", text(b"FIRST:", opens=True, close=0)),
+                   (5, "RP-F", text(b"OTHER", opens=True)), (6, "R---", {"close": 1}), (6, "-P-F", text(b"here")))),
+        (3, packet((4, "R---"), (4, "RP-F", text(b"OTHER")))),
     ])
 
 
 def samples():
     r = random.Random(7)
     return {
-        "match": match(),
+        "match": log(match()),
+        "match_without_1002": log([record for record in match() if record[0] != 1002]),
+        "match_1002_twice": log([record for record in match() for _ in range(1 + (record[0] == 1002))]),
+        "fragments_in_order": fragments((0, 1, 2, 3, 4)),
+        "fragments_exchanged": fragments((0, 2, 1, 3, 4)),
+        "two_halves": two_halves(),
+        "equal_ids": equal_ids(),
+        "reopened": two_lives(("R---", {"opens": True}), ("R---", text(b"plain"))),
+        "reopened_unseen": two_lives(("R---",), ("R---", text(b"plain"))),
+        "opened_over": opened_over(),
+        "opening_and_closing": opening_and_closing(),
+        # Its initial is refused for its bits, which the packet reader's tracking doesn't look at: to that, the whole message is an error.
+        "off_the_byte": log([(1, packet((3, "RPI-", {"bits": 5}))), (2, packet((3, "RPIF", text(b"whole"))))]),
         "example": EXAMPLE,
         "empty": b"",
         "version_alone": b"\x01",

@@ -5,4 +5,5 @@ pub mod Keeps
 pub mod Packed
 pub mod Serialized
 pub mod Logs
+pub mod Widths
 pub mod NumbersKeep

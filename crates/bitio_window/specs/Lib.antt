@@ -7,3 +7,4 @@ pub mod Windows
 pub mod Answers
 pub mod Sound
 pub mod Numbers
+pub mod Widths

@@ -11,7 +11,7 @@ use Rattle.bitio_window.specs.Refusals.{placeOf, tooFewBits, beyond, too
 use Rattle.bitio_bits.specs.Floats.{Decoded, decoded, signed}
 use Rattle.bitio_window.specs.Parse.{got, Parse, _>>=_, _>>_, give, refuseIf, advanced}
 
--- "7 data above 67,108,864 bytes"
+-- "7+ data above 67,108,864 bytes"
 abbrev pub largestData : ℕ
 largestData = 67108864
 

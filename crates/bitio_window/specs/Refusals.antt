@@ -39,11 +39,11 @@ zeroMaximum m = record { number = 4; returns = m ∷ [] }
 unfoldable pub beyond : ℕ → ℕ → Refusal
 beyond requested available = record { number = 5; returns = requested ∷ available ∷ [] }
 
--- "6 width above 64: width"
+-- "6+ width above 64: width"
 unfoldable pub tooWide : ℕ → Refusal
 tooWide width = record { number = 6; returns = width ∷ [] }
 
--- "7 data above 67,108,864 bytes: length"
+-- "7+ data above 67,108,864 bytes: length"
 unfoldable pub tooLong : ℕ → Refusal
 tooLong length = record { number = 7; returns = length ∷ [] }
 

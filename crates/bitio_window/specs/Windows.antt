@@ -17,7 +17,7 @@ windowAt start position size = record { start = record { 0 = start }; position =
 abbrev pub front : ℕ → Window
 front n = windowAt 0 0 n
 
--- "7 data above 67,108,864 bytes: length"
+-- "7+ data above 67,108,864 bytes: length"
 unfoldable pub newWindow : List ℕ → Result Window
 newWindow d = cond (ltb largestData (length d)) (refusal (tooLong (length d))) (value (front (8 * length d)))
 

@@ -7,8 +7,8 @@ use Rattle.tables.specs.Tables.{Found, none, found}
 use Rattle.bunch_judging.specs.declared.Fate.{Fate}
 use Rattle.bunch_judging.specs.Held.{Held, Fragment}
 
--- "one exception: a valid non-initial final of zero bits whose header entered with the error flag retires the message and reports
--- none of its bits"
+-- what a fate shows of the "one exception": a fragment that isn't initial, of zero bits, whose message falls. That it is then "valid",
+-- final and entered with the error flag follows for the fate that a fragment meets.
 pub record Unreported (x : Fate) (f : Fragment) : Type 0 where
   pub falls : x ≡ Fate.Falls
   pub continues : f .header .«b_partial_initial» ≡ false

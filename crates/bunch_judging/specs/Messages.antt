@@ -70,7 +70,7 @@ fallen m f =
     displacedOf (joinedTo (joining m f .message) f)
     (PartialDiscardCause.Sequence (orOverlapping (afterTest m (f .header) .«partial_error_kind»)))
 
--- "a valid non-initial final of zero bits .. reports none of its bits"; nor is an initial one's empty start displaced
+-- "a valid non-initial final of zero bits … reports none of its bits"; nor is an initial one's empty start displaced
 unfoldable pub displaced : Fate → Found Held → Fragment → List Displaced
 displaced Fate.TurnedAway m f = []
 displaced (Fate.Breaks k) m f = displacedBy (PartialDiscardCause.Sequence k) m

@@ -3,12 +3,14 @@ use Prim.Native.Nat.{ℕ}
 use mathlib.Core.Path.{_≡_}
 use mathlib.Core.Bool.{true, false}
 use mathlib.Core.List.{List, [], _∷_, _++_, flatten}
-use Rattle.types.specs.Types.{mostChannels}
+use lib.IntN.{pos}
 use Rattle.bitio_window.specs.declared.Window.{Window}
-use Rattle.bitio_window.specs.Parse.{Answer, got, refused, Parse}
+use Rattle.bitio_window.specs.Parse.{Answer, got, refused, Result, value, refusal, Parse}
 use Rattle.bitio_window.specs.Numbers.{readPacked, readSerialized}
 use Rattle.bitio_window.specs.Windows.{front}
-use Rattle.packet_reading.specs.Packet.{emptyTables, Outcome, bunch, end, malformed, nextBunch}
+use Rattle.packet_reading.specs.Packet.{Outcome, bunch, end, malformed}
+use Rattle.packet_reading.specs.Memory.{readerOf, readerMemory}
+use Rattle.packet.specs.Answers.{readBunch}
 use Rattle.field_walking.specs.Walks.{Stop, ended, tail, abandoned, Walked}
 use Rattle.field.specs.Walks.{parseRepLayout, parseClassNetCache}
 
@@ -36,17 +38,22 @@ walking n bytes p =
     let x = p bytes ((7 ∷ 7 ∷ 7 ∷ 7 ∷ []) ∷ []) (front n) in
     shownRead stopNumbers (x .answer) ++ (x .count ∷ flatten (x .places))
 
--- a packet read from its first bit on, over empty tables: 0 a bunch, 1 the end, 2 malformed; the next cursor; how many bunches and
--- malformed packets
 abbrev pub outcomeNumber : Outcome → ℕ
 outcomeNumber (bunch h w) = 0
 outcomeNumber end = 1
 outcomeNumber malformed = 2
 
+-- after a 0: 0 a bunch, 1 the end, 2 malformed; or the refusal's number, and what it returns
+abbrev pub shownOutcome : Result Outcome → List ℕ
+shownOutcome (value o) = 0 ∷ outcomeNumber o ∷ []
+shownOutcome (refusal r) = r .number ∷ r .returns
+
+-- a packet read from its first bit on, by a reader as opening leaves it, with a place for one channel: what was answered, the next
+-- cursor, and how many bunches and malformed packets
 abbrev pub packetRead : List ℕ → List ℕ
 packetRead packet =
-    let x = nextBunch mostChannels packet 0 0 emptyTables in
-    outcomeNumber (x .outcome) ∷ x .next ∷ x .bunches ∷ x .malformedPackets ∷ []
+    let x = readBunch packet (pos 0) 0 (readerOf 1 0 0) (readerMemory (7 ∷ []) (7 ∷ []) (7 ∷ []) (7 ∷ []) (7 ∷ [])) in
+    shownOutcome (x .answer) ++ (x .next ∷ x .bunches ∷ x .malformedPackets ∷ [])
 
 pub record Check : Type 0 where
   pub gives : List ℕ
@@ -74,8 +81,8 @@ deskChecks =
     ∷ check (walking 8 (0 ∷ []) (parseClassNetCache 2)) (0 ∷ 2 ∷ 8 ∷ 8 ∷ 0 ∷ 7 ∷ 7 ∷ 7 ∷ 7 ∷ [])
     ∷ check (walking 9 (0 ∷ 0 ∷ []) (parseClassNetCache 1)) (0 ∷ 0 ∷ 0 ∷ 9 ∷ 1 ∷ 0 ∷ 0 ∷ 9 ∷ 9 ∷ [])
     -- "Packet 01: no bunches, sound. Packet 00: malformed."
-    ∷ check (packetRead (0x01 ∷ [])) (1 ∷ 0 ∷ 0 ∷ 0 ∷ [])
-    ∷ check (packetRead (0x00 ∷ [])) (2 ∷ 0 ∷ 0 ∷ 1 ∷ [])
+    ∷ check (packetRead (0x01 ∷ [])) (0 ∷ 1 ∷ 0 ∷ 0 ∷ 0 ∷ [])
+    ∷ check (packetRead (0x00 ∷ [])) (0 ∷ 2 ∷ 0 ∷ 0 ∷ 1 ∷ [])
     ∷ []
 
 -- the claim: each row gives what the document says

@@ -20,7 +20,7 @@ pub record Walked : Type 0 where
   pub count : ℕ
   pub answer : Answer Stop
 
--- "handle, bit count and its payload's start, counted both ways"
+-- "its handle, its bit count and its payload's start, counted both ways"
 abbrev pub recordNumbers : FieldRecord → List ℕ
 recordNumbers r = r .handle ∷ r .«bit_count» ∷ r .«in_window» .0 ∷ r .«in_packet» .0 ∷ []
 

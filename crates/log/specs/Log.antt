@@ -21,8 +21,8 @@ lengthAt d i = 256 * getD d i 0 + getD d (i + 1) 0
 abbrev pub idAt : List ℕ → ℕ → ℤ
 idAt d i = signed (16777216 * getD d (i + 2) 0 + 65536 * getD d (i + 3) 0 + 256 * getD d (i + 4) 0 + getD d (i + 5) 0)
 
--- The record at a place is whole where its six bytes and its packet are there. At the log's end there is none; any other place
--- has "a cut record: X and the byte offset of its start".
+-- The record at a place is whole where its six bytes and its packet are there. At the log's end there is none; at any other place
+-- it is cut: "A cut record: X and the byte offset of its start".
 unfoldable pub entryAt : List ℕ → ℕ → Entry
 entryAt d i =
     let next = i + 6 + lengthAt d i in

@@ -3,12 +3,11 @@ use Prim.Native.Nat.{ℕ, suc, _+_, _*_, _-_, _/_, _%_, _^_, _≤_, _<_}
 use mathlib.Core.Path.{_≡_, refl, sym, ap, ap₂, _∙_}
 use mathlib.Core.Bool.{Bool, true, false, _&&_, cond, true≢false}
 use mathlib.Core.List.{List}
-use native.Mathlib.Nat.{div-one, add-zero, zero-mul}
+use native.Mathlib.Nat.{div-one, mod-one, add-zero, add-comm, zero-mul}
 use native.Mathlib.Omega.{arith}
-use lib.Count.{leadingZeros}
 use lib.Dec.{eqb, ltb, leb}
-use lib.Pow.{shr-shr}
-use borrow.Author.Tests.{lt-ltb, le-ltb, leb-true, ltb-true, ltb-false, eq-eqb, ne-eqb, eqb-true, eqb-false}
+use lib.Pow.{shr-shr, mod-pow-add}
+use borrow.Author.Tests.{leb-true, eq-eqb, ne-eqb, eqb-true, eqb-false}
 use Rattle.bitio_window.specs.declared.Window.{Window}
 use Rattle.bitio_window.specs.declared.Place.{Place}
 use Rattle.bitio_bits.specs.Bits.{bitsAt}
@@ -17,6 +16,7 @@ use Rattle.bitio_window.specs.Refusals.{placeOf}
 use Rattle.bitio_window.specs.Parse.{Answer, got, Parse, andThen, _>>=_, give, readIf, place, advanced}
 use Rattle.bitio_window.specs.Reads.{bits, bit}
 use Rattle.bitio_window.specs.Numbers.{packedFrom, packed, log2, serialized}
+use Rattle.bitio_window.specs.Widths.{serializedWidth}
 use Rattle.bitio_bits.proofs.Numbers.{cut}
 use Rattle.bitio_window.proofs.Steps.{bits-there}
 use Rattle.packet_header.specs.declared.BunchFields.{BunchFields}
@@ -141,32 +141,28 @@ packed-reads q true true false e f =
     (passed-twice q 8 8)
 packed-reads q true true true e f = beyond packed q _ 63 (omega arith)
 
--- a number with maximum m, whose logarithm is n
-module _ (m : ℕ) {n : ℕ} (en : log2 m ≡ n) (q : Rest) where
-  without-top : m ≤ q .word % 2 ^ n + 2 ^ n → Reads (serialized m) q (q .word % 2 ^ n) (shifted q n)
-  unfolding serialized readIf
-  without-top h =
-      rw en
-      (then _ (takes q n)
-      (rw (le-ltb (q .word % 2 ^ n + 2 ^ n) m h) (which-is (then _ (gives 0 (shifted q n)) (gives _ _)) (ap (λ (y : ℕ). q .word % 2 ^ n + y) (zero-mul (2 ^ n)) ∙ add-zero (q .word % 2 ^ n)) refl)))
+-- a number with maximum m is one field: its top bit, where there is one, stands above the others
+module _ (m : ℕ) (q : Rest) where
+  abbrev n : ℕ
+  n = log2 m
 
-  with-top : q .word % 2 ^ n + 2 ^ n < m → Reads (serialized m) q (q .word % 2 ^ n + q .word / 2 ^ n % 2 * 2 ^ n) (shifted q (n + 1))
-  unfolding serialized readIf
-  with-top h =
-      rw en
-      (then _ (takes q n)
-      (rw (lt-ltb (q .word % 2 ^ n + 2 ^ n) m h) (which-is (then _ (takes (shifted q n) 1) (gives _ _)) refl (passed-twice q n 1))))
+  abbrev v : ℕ
+  v = q .word % 2 ^ n
 
-pub reason-reads : (q : Rest) (wanted fourth : Bool) → ltb (q .word % 8) 7 ≡ fourth
-    → let n : ℕ = cond wanted 3 0 + cond (wanted && fourth) 1 0 in Reads (readIf wanted 0 (serialized 15)) q (q .word % 16 % 2 ^ n) (shifted q n)
-unfolding readIf log2 leadingZeros
-reason-reads q false fourth e = which-is (skips 0 q) (omega arith) refl
-reason-reads q true true e = which-is (with-top 15 {n = 3} refl q (omega (arith, ltb-true))) (omega arith) refl
-reason-reads q true false e = which-is (without-top 15 {n = 3} refl q (omega (arith, ltb-false))) (omega arith) refl
+  with-top : v + q .word / 2 ^ n % 2 ^ 1 * 2 ^ n ≡ q .word % 2 ^ (n + 1)
+  with-top = sym (ap (λ (k : ℕ). q .word % 2 ^ k) (add-comm n 1) ∙ mod-pow-add (q .word) 1 n ∙ add-comm (q .word / 2 ^ n % 2 ^ 1 * 2 ^ n) v)
 
-pub count-reads : (q : Rest) → Reads (serialized 16384) q (q .word % 16384) (shifted q 14)
-unfolding log2 leadingZeros
-count-reads q = without-top 16384 {n = 14} refl q (omega arith)
+  top-reads : (t : Bool)
+      → Reads (readIf t 0 (bits 1) >>= (λ top. give (v + top * 2 ^ n))) (shifted q n) (q .word % 2 ^ (n + cond t 1 0)) (shifted q (n + cond t 1 0))
+  unfolding readIf
+  top-reads true = which-is (then _ (takes (shifted q n) 1) (gives _ _)) with-top (passed-twice q n 1)
+  top-reads false = rw add-zero (which-is (then _ (gives 0 (shifted q n)) (gives _ _)) (rw (zero-mul, add-zero) refl) refl)
+
+  pub serialized-reads : (wanted : Bool) → let k : ℕ = cond wanted (serializedWidth m (q .word)) 0 in
+      Reads (readIf wanted 0 (serialized m)) q (q .word % 2 ^ k) (shifted q k)
+  unfolding readIf serialized serializedWidth
+  serialized-reads false = which-is (skips 0 q) (sym (mod-one (q .word))) refl
+  serialized-reads true = then _ (takes q n) (top-reads (ltb (v + 2 ^ n) m))
 
 whole : (d : List ℕ) (w : Window) {x : ℕ} → Peeked d (w .start .0 + w .position .0) x → Ahead d w (record { word = x; used = 0 })
 whole d w p =

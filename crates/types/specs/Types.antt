@@ -4,8 +4,9 @@ use mathlib.Core.Bool.{cond}
 use lib.Dec.{eqb}
 use Rattle.types.specs.declared.ChannelCloseReason.{ChannelCloseReason}
 
--- "a serialized reason of maximum ChannelCloseReason::MAX": 15 at the commit
-abbrev pub closeReasonMaximum : ℕ
+-- "a serialized reason of maximum ChannelCloseReason::MAX (not in our text: read it at the commit, prove over one named constant of
+-- at least 2 …)". It is 15 there; what proofs use of that is two laws (crates/types/proofs/Reasons.antt).
+unfoldable pub closeReasonMaximum : ℕ
 closeReasonMaximum = 15
 
 -- "payload count, serialized of maximum 16,384"

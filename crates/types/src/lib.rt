@@ -1,7 +1,7 @@
 // What the layers share: vrf-net/src/types.rs, the kinds of error.rs, and the header of bunch.rs.
 ghost use mathlib.Core.Path.{_≡_};
 ghost use Prim.Native.Nat.{_<_};
-ghost use Rattle.types.specs.Types.{reasonWord, reasonOf};
+ghost use Rattle.types.specs.Types.{closeReasonMaximum, reasonWord, reasonOf};
 
 pub mod continuing;
 
@@ -34,7 +34,7 @@ pub enum ChannelCloseReason {
 
 // The number that a reason is written as.
 pub fn to_raw(reason: ChannelCloseReason) -> u32
-    ensures { λ r. ⌜ (r ≡ reasonWord reason) × (r < 7) ⌝ }
+    ensures { λ r. ⌜ (r ≡ reasonWord reason) × (r < closeReasonMaximum) ⌝ }
 {
     match reason {
         ChannelCloseReason::Destroyed => 0,

@@ -7,6 +7,7 @@ use lib.Dec.{eqb}
 use Rattle.types.specs.declared.ChannelCloseReason.{ChannelCloseReason}
 use Rattle.types.specs.declared.RawBunchHeader.{RawBunchHeader}
 use Rattle.types.specs.Types.{reasonWord}
+use Rattle.types.proofs.Reasons.{reason-fits}
 use Rattle.types.specs.Continuing.{agree}
 use Rattle.writer_spelling.specs.Header.{dormancy, fieldsOf, writable}
 use Rattle.writer_spelling.proofs.Headers.{Sayable}
@@ -38,10 +39,6 @@ dormant ChannelCloseReason.Dormancy true true h e = refl
 dormant ChannelCloseReason.Dormancy true false h e = sym e
 dormant ChannelCloseReason.Dormancy false d h e = cc
 
-raw-small : (r : ChannelCloseReason) → reasonWord r < 15
-raw-small ChannelCloseReason.Destroyed = omega arith
-raw-small ChannelCloseReason.Dormancy = omega arith
-
 module _ (h : RawBunchHeader) (w : writable h ≡ true) where
   tests : (not ((h .«b_partial_initial» || h .«b_partial_final») && not (h .«b_partial»)) ≡ true)
       × (not (dormancy (h .«close_reason») && not (h .«b_close»)) ≡ true)
@@ -58,7 +55,7 @@ module _ (h : RawBunchHeader) (w : writable h ≡ true) where
       let whole = parts (h .«b_partial_initial») (h .«b_partial_final») (h .«b_partial») (tests .0) in
       record {
         channel-fits = c;
-        reason-fits = raw-small (h .«close_reason»);
+        reason-fits = reason-fits (h .«close_reason»);
         count-fits = omega arith;
         reason-with-close = no-reason (h .«close_reason») (h .«b_close») (tests .1);
         initial-with-partial = λ e. whole e .0;

@@ -5,6 +5,7 @@ use mathlib.Core.Bool.{Bool, true, false, _||_}
 use mathlib.Core.List.{append-assoc}
 use native.Mathlib.Omega.{arith}
 use Rattle.types.specs.Types.{closeReasonMaximum, payloadMaximum}
+use Rattle.types.proofs.Reasons.{maximum-most}
 use Rattle.packet_header.specs.declared.BunchFields.{BunchFields}
 use Rattle.packet_header.specs.Header.{fields}
 use Rattle.writer_spelling.specs.Header.{control, named, frontBits, backBits, headerBits}
@@ -33,7 +34,7 @@ reads-header f s =
     (reads-then _ (reads-bit (control f))
     (reads-then _ (reads-if (control f) false (λ t. reads-bit opens) (λ t. neither opens closes t .0))
     (reads-then _ (reads-if (control f) false (λ t. reads-bit closes) (λ t. neither opens closes t .1))
-    (reads-then _ (reads-if closes 0 (λ t. reads-serialized closeReasonMaximum (f .«close_reason») (s .reason-fits) (omega arith)) (s .reason-with-close))
+    (reads-then _ (reads-if closes 0 (λ t. reads-serialized closeReasonMaximum (f .«close_reason») (s .reason-fits) (omega (arith, maximum-most))) (s .reason-with-close))
     (reads-then _ (reads-bit (f .«b_is_replication_paused»))
     (reads-then _ (reads-bit (f .«b_reliable»))
     (reads-then _ (reads-packed (f .«ch_index») (s .channel-fits))

@@ -3,11 +3,11 @@ use Prim.Native.Nat.{ℕ, zero, suc, _+_, _*_, _-_, _/_, _%_, _^_, _≤_, _<_}
 use mathlib.Core.Path.{_≡_, refl, sym, ap, _∙_}
 use mathlib.Core.Bool.{Bool, true, false, cond}
 use mathlib.Core.List.{List, [], _∷_, _++_}
-use native.Mathlib.Nat.{mod-one, mod-eq-of-lt, pow-suc}
+use native.Mathlib.Nat.{add-comm, mod-one, mod-eq-of-lt, pow-suc}
 use native.Mathlib.Numerals.{add-one}
 use native.Mathlib.Omega.{arith}
 use lib.Dec.{eqb, ltb}
-use lib.Pow.{pow-pos, pow-add, shr-lt, split, low, mod-pow-add}
+use lib.Pow.{mod-pow-add, recompose}
 use borrow.Author.Tests.{le-ltb, ltb-true, ltb-false, eq-eqb, ne-eqb, eqb-true, eqb-false}
 use Rattle.bitio_window.specs.declared.Place.{Place}
 use Rattle.bitio_bits.specs.Bits.{bitAt, bitsAt}
@@ -16,7 +16,7 @@ use Rattle.bitio_window.specs.Parse.{got, _>>=_, give, readIf, place, advanced}
 use Rattle.bitio_window.specs.Reads.{bits, bit}
 use Rattle.bitio_window.specs.Numbers.{packedFrom, packed, log2, serialized}
 use Rattle.bitio_bits.proofs.Numbers.{bits-lt, bits-one}
-use Rattle.bitio_window.proofs.Logs.{log2-lt}
+use Rattle.bitio_window.proofs.Widths.{below-twice, below-top}
 use Rattle.bitio_window.proofs.Steps.{bits-there}
 use Rattle.writer_spelling.specs.Bits.{numberBits, bitsFrom, onlyIf, packedUpTo, packedBits, serializedBits}
 use Rattle.writer_spelling.proofs.Lists.{length-bitsOf}
@@ -88,25 +88,15 @@ pub reads-packed : (x : ℕ) → x < 2 ^ 32 → Reads packed (packedBits x) x
 unfolding packed place _>>=_ packedBits
 reads-packed x h = record { back = λ d w. reads-packed-from (placeOf w) 4 x (omega arith) .back d w }
 
--- a number with maximum m, whose logarithm is n
-module _ (m x : ℕ) (h : x < m) (f : m < 2 ^ 32) {n : ℕ} (en : log2 m ≡ n) where
-  within : x < 2 * 2 ^ n
-  within = omega (arith, pow-suc 2 n, rw (en, add-one) at (log2-lt m (omega arith) f))
+module _ (m x : ℕ) (h : x < m) (f : m < 2 ^ 32) where
+  abbrev n : ℕ
+  n = log2 m
 
   with-top : x % 2 ^ n + x / 2 ^ n % 2 ^ 1 * 2 ^ n ≡ x
-  with-top =
-      let q : x / 2 ^ n % 2 ^ 1 ≡ x / 2 ^ n = mod-eq-of-lt (shr-lt 1 n (rw (pow-add 2 1 n) within)) in
-      rw q (omega (arith, split x n))
+  with-top = add-comm (x % 2 ^ n) (x / 2 ^ n % 2 ^ 1 * 2 ^ n) ∙ recompose 1 n (rw (add-comm n 1) at (below-twice m f x h))
 
   without-top : m ≤ x % 2 ^ n + 2 ^ n → x % 2 ^ n + 0 * 2 ^ n ≡ x
-  without-top g = go (ltb x (2 ^ n)) refl
-    where
-      go : (t : Bool) → ltb x (2 ^ n) ≡ t → x % 2 ^ n + 0 * 2 ^ n ≡ x
-      go true e = omega (arith, mod-eq-of-lt (ltb-true x (2 ^ n) e))
-      go false e =
-          let l : x - 2 ^ n < 2 ^ n = omega (arith, within, pow-pos n) in
-          let s : 1 * 2 ^ n + (x - 2 ^ n) ≡ x = omega (arith, ltb-false x (2 ^ n) e) in
-          absurd (omega (arith, rw s at (low 1 n l), ltb-false x (2 ^ n) e))
+  without-top g = omega (arith, mod-eq-of-lt (below-top m f x h g))
 
   top-or-none : (t : Bool) → ltb (x % 2 ^ n + 2 ^ n) m ≡ t
       → Reads (readIf t 0 (bits 1) >>= (λ top. give (x % 2 ^ n + top * 2 ^ n))) (onlyIf t (numberBits 1 (x / 2 ^ n))) x
@@ -114,9 +104,6 @@ module _ (m x : ℕ) (h : x < m) (f : m < 2 ^ 32) {n : ℕ} (en : log2 m ≡ n) 
   top-or-none true e = reads-last _ (reads-bits 1 (x / 2 ^ n)) (reads-same (reads-nothing _) refl with-top)
   top-or-none false e = reads-last _ (reads-nothing 0) (reads-same (reads-nothing _) refl (without-top (ltb-false (x % 2 ^ n + 2 ^ n) m e)))
 
-  reads-with : Reads (serialized m) (serializedBits m x) x
+  pub reads-serialized : Reads (serialized m) (serializedBits m x) x
   unfolding serialized serializedBits
-  reads-with = rw en (reads-then _ (reads-bits n x) (top-or-none (ltb (x % 2 ^ n + 2 ^ n) m) refl))
-
-pub reads-serialized : (m x : ℕ) → x < m → m < 2 ^ 32 → Reads (serialized m) (serializedBits m x) x
-reads-serialized m x h f = reads-with m x h f refl
+  reads-serialized = reads-then _ (reads-bits n x) (top-or-none (ltb (x % 2 ^ n + 2 ^ n) m) refl)

@@ -1,17 +1,15 @@
 -- Numbers as bits: a number above another is its bits after the other's, and so words are put together.
-use Prim.Native.Nat.{ℕ, zero, suc, _+_, _*_, _/_, _%_, _^_, _<_}
+use Prim.Native.Nat.{ℕ, zero, suc, _+_, _*_, _/_, _%_, _^_, _≤_, _<_}
 use mathlib.Core.Path.{_≡_, refl, sym, ap, _∙_}
 use mathlib.Core.Bool.{Bool, true, false, cond}
 use mathlib.Core.List.{List, [], _∷_, _++_, append-assoc, append-nil}
 use native.Mathlib.Omega.{arith}
 use native.Mathlib.Nat.{pow-zero, zero-add, suc-add, add-zero, add-comm, suc-mul, mul-comm, mul-le-mul-right, mod-lt}
-use borrow.Author.Tests.{lt-ltb, le-ltb}
 use lib.Bits.{block-half, block-odd}
-use lib.Count.{leadingZeros}
-use lib.Dec.{eqb}
+use lib.Dec.{eqb, ltb}
 use lib.Pow.{pow-pos, pow-add, split}
 use Rattle.bitio_window.specs.Numbers.{log2}
-use Rattle.types.specs.Types.{closeReasonMaximum, payloadMaximum}
+use Rattle.bitio_window.specs.Widths.{serializedWidth}
 use Rattle.writer_spelling.specs.declared.inner.Bits.{Bits}
 use Rattle.writer_spelling.specs.Bits.{numberBits, onlyIf, serializedBits}
 use Rattle.writer_spelling.specs.Header.{flagBit}
@@ -69,14 +67,17 @@ then {q = q} {xs = xs} {ys = ys} a b =
       grows = omega (arith, a .grows, b .grows);
     }
 
--- "If v + 2^w >= m, the answer is v": 16,384 is a power of two
-pub count-bits : (count : ℕ) → serializedBits payloadMaximum count ≡ numberBits 14 count
-unfolding serializedBits onlyIf log2 numberBits leadingZeros
-count-bits count = rw (le-ltb (count % 16384 + 16384) 16384 (omega arith)) (append-nil (numberBits 14 count))
+-- a bound on how many, for one of them
+pub at-most : {m n : ℕ} {q r : Bits} {xs : List Bool} → m ≤ n → Adds m q xs r → Adds n q xs r
+at-most h a = record { spells = a .spells; whole = a .whole; grows = omega (arith, a .grows) }
 
--- "else one more bit": below 7 with 8 it is below 15
-pub reason-bits : (reason : ℕ) → reason < 7 → serializedBits closeReasonMaximum reason ≡ numberBits 4 reason
-unfolding serializedBits onlyIf log2 numberBits leadingZeros
-reason-bits reason h =
-    let e : reason / 8 ≡ reason / 2 / 2 / 2 = omega arith in
-    rw (lt-ltb (reason % 8 + 8) 15 (omega arith), e)
+-- a serialized number's bits are its lowest, as many as it takes
+pub serialized-bits : (m x : ℕ) → serializedBits m x ≡ numberBits (serializedWidth m x) x
+unfolding serializedBits serializedWidth onlyIf
+serialized-bits m x = go (ltb (x % 2 ^ log2 m + 2 ^ log2 m) m)
+  where
+    go : (t : Bool) → numberBits (log2 m) x ++ onlyIf t (numberBits 1 (x / 2 ^ log2 m)) ≡ numberBits (log2 m + cond t 1 0) x
+    go true =
+        let e : numberBits (log2 m + 1) (x / 2 ^ log2 m * 2 ^ log2 m + x % 2 ^ log2 m) ≡ numberBits (log2 m) (x % 2 ^ log2 m) ++ numberBits 1 (x / 2 ^ log2 m) = above (log2 m) 1 (x % 2 ^ log2 m) (x / 2 ^ log2 m) (mod-lt x (pow-pos (log2 m))) in
+        sym (rw (split, low-bits) at e)
+    go false = rw add-zero (append-nil (numberBits (log2 m) x))

@@ -2,9 +2,10 @@
 //!
 //! Packets are read bunch by bunch. A bunch that is no fragment is a message itself; fragments go to the accumulator, with the
 //! packet reader's error and completed flags cleared, as the Rust's pipeline does, and a finished message is taken at once. A
-//! close that isn't dormant retires its channel. Nothing is left out: each payload bit that was read on a channel is in one of
-//! that channel's messages, or in a line that says why it isn't. The program holds itself to that channel by channel, so a
-//! fragment joined to another channel's message would end it.
+//! channel is retired before a bunch that opens it, and after one that closes it and isn't dormant. Nothing is left out: each payload
+//! bit that was read on a channel is in one of that channel's messages, or in a line that says why it isn't. The program holds itself
+//! to that by sums, channel by channel, and stops where a channel's lines have more or fewer bits than were read on it. An exchange of
+//! equally many bits doesn't change a sum, and a packet that the log lacks was never read: neither stops it.
 
 use gritwheel::bunch::PreservedPartial;
 use gritwheel::{Bunch, Error, LogError, PacketLog, PartialBunchAccumulator, PartialBunchResult, RawPacketReader};
@@ -105,9 +106,12 @@ impl Chain {
     fn bunch(&mut self, mut bunch: Bunch<'_>) -> Result<(), Error> {
         let header = &bunch.header;
         let (channel, id, bits) = (header.ch_index, header.packet_id, bunch.payload.len_bits());
-        let closes = header.b_close && !header.b_dormant;
+        let (opens, closes) = (header.b_open, header.b_close && !header.b_dormant);
         let bytes = bunch.payload.copy_remaining()?;
         self.channels.entry(channel).or_default().bits += bits;
+        if opens {
+            self.retire(channel, id, "its channel opened anew");
+        }
         if header.has_channel_limit_error {
             // The reader has no sequence for it, so whether a fragment fits can't be said.
             self.line(channel, Fate::Discarded("too many channels".into()), (id, id), bits, bytes);
@@ -116,10 +120,17 @@ impl Chain {
         } else {
             self.line(channel, Fate::Message, (id, id), bits, bytes);
         }
-        if closes && let Some(message) = self.accumulator.retire_channel(channel) {
-            self.lost(channel, message, id, "its channel closed");
+        if closes {
+            self.retire(channel, id, "its channel closed");
         }
         Ok(())
+    }
+
+    /// What a life of the channel leaves unfinished is joined to nothing of the next.
+    fn retire(&mut self, channel: u32, id: i32, why: &str) {
+        if let Some(message) = self.accumulator.retire_channel(channel) {
+            self.lost(channel, message, id, why);
+        }
     }
 
     fn fragment(&mut self, mut bunch: Bunch<'_>, bytes: Vec<u8>) -> Result<(), Error> {

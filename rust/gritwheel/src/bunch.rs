@@ -140,7 +140,8 @@ impl PartialBunchAccumulator {
     /// Adds a fragment of so many bits on a channel. Refuses a payload above 16,383 bits (11), and one whose data is shorter
     /// than its bits (12); nothing is changed then. A fragment that doesn't fit is no refusal: the result says what became of it.
     ///
-    /// Clear the packet reader's flags before ([`RawBunchHeader::clear_tracking`]).
+    /// Of the packet reader's bunches hand in those with `b_partial` alone, which isn't looked at here: any other would be judged
+    /// as a continuation. Clear the reader's flags before ([`RawBunchHeader::clear_tracking`]). [The crate's page](crate) shows it.
     ///
     /// ```
     /// use gritwheel::{Error, PartialBunchAccumulator, PartialSequenceKind, RawBunchHeader};
@@ -171,13 +172,14 @@ impl PartialBunchAccumulator {
         Some((taken.buffer, taken.bit_count, taken.header))
     }
 
-    /// Whatever a channel holds, finished or not: to be called when the channel closes.
+    /// Whatever a channel holds, finished or not: to be called before a bunch that opens the channel, and after one that closes it
+    /// and isn't dormant. Else a fragment of the channel's next life can join what is held of the life before.
     pub fn retire_channel(&mut self, ch_index: u32) -> Option<PreservedPartial> {
         self.hand(|a, held, output| ffi::retire_channel(a, ch_index, held, output))
     }
 
     /// Empties the accumulator, and hands out the unfinished messages by ascending channel, which stands beside each. Finished
-    /// ones that nobody took are dropped.
+    /// ones that nobody took are dropped without a word: they stand in no answer and no count.
     pub fn drain_unfinished(&mut self) -> Vec<(u32, PreservedPartial)> {
         let mut list = vec![[0; 22]; self.accumulator.active];
         let answer = self.call(|a, held, output| ffi::drain_unfinished(a, held, output, &mut list));

@@ -93,6 +93,20 @@ fn the_file_is_the_log() {
     assert_eq!(interleaved(), include_bytes!("data/interleaved.log"));
 }
 
+/// "FIRST:" and "OTHER" are of two lives of a channel: whether it closed between them or opened only, both are discarded.
+#[test]
+fn two_lives() {
+    let reopened = &include_bytes!("../../../samples/logs/reopened.log")[..];
+    let opened_over = &include_bytes!("../../../samples/logs/opened_over.log")[..];
+    for (log, first, why) in
+        [(reopened, "2..3", "its channel closed"), (opened_over, "1..2", "its channel opened anew")]
+    {
+        let (text, _) = messages::messages(log).expect("no refusal");
+        assert!(text.contains(&format!("  discarded {first} 48 bits [46495253543a]: {why}\n")), "{text}");
+        assert!(text.contains(" 40 bits [4f54484552]: continuation without initial\n"), "{text}");
+    }
+}
+
 #[test]
 fn logs_that_end_early() {
     let log = interleaved();

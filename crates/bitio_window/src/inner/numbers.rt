@@ -5,6 +5,7 @@ ghost use lib.Dec.{leb};
 ghost use Rattle.bitio_window.specs.Refusals.{placeOf, tooFewBits, endless, tooLarge};
 ghost use Rattle.bitio_window.specs.Parse.{refused, advanced};
 ghost use Rattle.bitio_window.specs.Numbers.{packed, log2, serialized};
+ghost use Rattle.bitio_window.specs.Widths.{serializedWidth};
 ghost use Rattle.bitio_window.specs.Answers.{ofU32};
 ghost use Rattle.bitio_window.specs.Sound.{Sound};
 use crate::BitError;
@@ -16,6 +17,7 @@ use crate::inner::packet_bit;
 use crate::inner::too_few_bits;
 use crate::inner::words;
 use crate::place_of;
+use bitio_bits::inner::arithmetic::only_if;
 use bitio_bits::inner::masks;
 
 fn short_u32(w: Window, requested: u64) -> U32Read
@@ -109,32 +111,35 @@ fn is_whole(value: u64, top: u64, max: u32) -> bool
     value + top >= max as u64
 }
 
-// Both reads are fields of one peeked word; with the second they are one field.
+// How many bits a number takes whose lowest bits are the word's: for what reads it from a word, and for what writes it.
+pub fn serialized_width(word: u64, max: u32) -> u64
+    requires { ⌜ 0 < max ⌝ }
+    ensures { λ r. ⌜ (r ≡ serializedWidth max word) × (r ≤ 32) ⌝ }
+{
+    let width = floor_log2(max);
+    let n = width as u64;
+    let whole = is_whole(masks::low(n, word), power(width), max);
+    n + only_if(!whole, 1)
+}
+
+// Both reads are one field of a peeked word, of as many bits as its lowest ones say: no branch asks for the top bit.
 pub fn serialized(bytes: &[u8], w: Window, max: u32) -> U32Read
     requires { ⌜ Sound (now bytes) w × (0 < max) ⌝ }
     ensures { λ r. ⌜ (ofU32 r ≡ serialized max (now (bytes .entry)) w) × Sound (now (bytes .entry)) (r .next) ⌝ }
 {
     let position = w.position;
     let left = w.length - position.0;
-    let width = floor_log2(max);
-    let n = width as u64;
+    let n = floor_log2(max) as u64;
     if left < n {
         return short_u32(w, n);
     }
     let word = words::peek(bytes, packet_bit(w));
-    let top = power(width);
-    let value = masks::low(n, word);
-    if is_whole(value, top, max) {
-        return U32Read {
-            answer: U32::Value(value as u32),
-            next: advance(w, n),
-        };
-    }
-    if left < n + 1 {
+    let width = serialized_width(word, max);
+    if left < width {
         return short_u32(advance(w, n), 1);
     }
     U32Read {
-        answer: U32::Value(masks::low(n + 1, word) as u32),
-        next: advance(w, n + 1),
+        answer: U32::Value(masks::low(width, word) as u32),
+        next: advance(w, width),
     }
 }

@@ -6,12 +6,14 @@ ghost use Prim.Native.Nat.{_+_, _≤_, _<_};
 ghost use Rattle.bitio_window.specs.Parse.{readIf};
 ghost use Rattle.bitio_window.specs.Reads.{bit};
 ghost use Rattle.bitio_window.specs.Numbers.{packed, serialized};
-ghost use Rattle.types.specs.Types.{closeReasonMaximum, payloadMaximum};
 ghost use Rattle.packet_header.specs.Header.{fields};
 ghost use Rattle.packet_header.specs.Word.{Reads, shifted};
 use crate::BunchFields;
-use bitio_bits::inner::arithmetic::low;
 use bitio_bits::inner::arithmetic::only_if;
+use bitio_bits::inner::masks::low;
+use bitio_window::inner::numbers::serialized_width;
+use types::CHANNEL_CLOSE_REASON_MAX;
+use types::MAX_PACKET_SIZE_BITS;
 
 // What is left of the word, and how many of its bits were used.
 pub struct Rest {
@@ -62,34 +64,22 @@ fn packed(q: Rest, wanted: bool) -> QuickNumber
     let second = wanted & (q.word % 2 == 1);
     let third = second & (q.word / 256 % 2 == 1);
     let width = only_if(wanted, 8) + only_if(second, 8) + only_if(third, 47);
-    let bytes = low(q.word, width);
+    let bytes = low(width, q.word);
     QuickNumber {
-        value: (bytes / 2 % 128 + bytes / 512 % 128 * 128) as u32,
+        value: (low(7, bytes / 2) + low(7, bytes / 512) * 128) as u32,
         rest: pass(q, width),
     }
 }
 
-// Only 7 has no fourth bit: with one it would be 15, the maximum.
-fn reason(q: Rest, wanted: bool) -> QuickNumber
-    requires { ⌜ q .used ≤ 1024 ⌝ }
-    ensures { λ r. ⌜ Reads (readIf wanted 0 (serialized closeReasonMaximum)) q (r .value) (r .rest) × (r .rest .used ≤ q .used + 4) ⌝ }
+// One field, of as many bits as its lowest ones say.
+fn serialized(q: Rest, wanted: bool, max: u32) -> QuickNumber
+    requires { ⌜ (q .used ≤ 1024) × (0 < max) ⌝ }
+    ensures { λ r. ⌜ Reads (readIf wanted 0 (serialized max)) q (r .value) (r .rest) × (r .rest .used ≤ q .used + 32) ⌝ }
 {
-    let fourth = wanted & (q.word % 8 < 7);
-    let width = only_if(wanted, 3) + only_if(fourth, 1);
+    let width = only_if(wanted, serialized_width(q.word, max));
     QuickNumber {
-        value: low(q.word % 16, width) as u32,
+        value: low(width, q.word) as u32,
         rest: pass(q, width),
-    }
-}
-
-// The maximum is a power of two, so no further bit is read.
-fn count(q: Rest) -> QuickNumber
-    requires { ⌜ q .used ≤ 1024 ⌝ }
-    ensures { λ r. ⌜ Reads (serialized payloadMaximum) q (r .value) (r .rest) × (r .rest .used ≤ q .used + 14) ⌝ }
-{
-    QuickNumber {
-        value: (q.word % 16384) as u32,
-        rest: pass(q, 14),
     }
 }
 
@@ -100,7 +90,7 @@ pub fn fields_of(word: u64) -> QuickFields
     let control = flag(whole, true);
     let b_open = flag(control.rest, control.value);
     let b_close = flag(b_open.rest, control.value);
-    let reason = reason(b_close.rest, b_close.value);
+    let reason = serialized(b_close.rest, b_close.value, CHANNEL_CLOSE_REASON_MAX);
     let paused = flag(reason.rest, true);
     let reliable = flag(paused.rest, true);
     let channel = packed(reliable.rest, true);
@@ -113,7 +103,7 @@ pub fn fields_of(word: u64) -> QuickFields
     let named = reliable.value | b_open.value;
     let hardcoded = flag(last.rest, named);
     let name = packed(hardcoded.rest, named);
-    let count = count(name.rest);
+    let count = serialized(name.rest, true, MAX_PACKET_SIZE_BITS);
     let rest = count.rest;
     QuickFields {
         fields: BunchFields {

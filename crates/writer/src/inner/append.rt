@@ -3,7 +3,7 @@ ghost use mathlib.Core.Path.{_≡_};
 ghost use mathlib.Core.List.{_++_};
 ghost use Prim.Native.Nat.{_+_, _*_, _≤_, _<_};
 ghost use lib.ListN.{length};
-ghost use Rattle.types.specs.Types.{longestPacketBits, longestPayload};
+ghost use Rattle.types.specs.Types.{closeReasonMaximum, longestPacketBits, longestPayload};
 ghost use Rattle.writer_spelling.specs.Bits.{bitsFrom, putBits};
 ghost use Rattle.writer_spelling.specs.Header.{headerBits};
 ghost use Rattle.writer_spelling.specs.Words.{spelt, Piece};
@@ -51,7 +51,9 @@ fn lay(packet: &mut [u8], at: u64, front: Bits, back: Bits, payload: &[u8], coun
 
 pub fn append(f: BunchFields, payload: &[u8], packet: &mut [u8], at: u64) -> Written
     requires { ⌜
-        (f .«close_reason» < 7) × (f .«payload_bit_count» ≤ longestPayload) × (f .«payload_bit_count» ≤ 8 * length (now payload))
+        (f .«close_reason» < closeReasonMaximum)
+        × (f .«payload_bit_count» ≤ longestPayload)
+        × (f .«payload_bit_count» ≤ 8 * length (now payload))
         ⌝ }
     ensures { λ r. ⌜ (
         let bits = headerBits f ++ bitsFrom (now (payload .entry)) 0 (f .«payload_bit_count») in

@@ -1,6 +1,7 @@
 // What is written of a header, and whether it can be.
 ghost use mathlib.Core.Path.{_≡_};
 ghost use Prim.Native.Nat.{_<_};
+ghost use Rattle.types.specs.Types.{closeReasonMaximum};
 ghost use Rattle.writer_spelling.specs.Header.{dormancy, fieldsOf, writable};
 use packet_header::BunchFields;
 use types::ChannelCloseReason;
@@ -28,7 +29,7 @@ pub fn writable(header: RawBunchHeader) -> bool
 }
 
 pub fn fields_of(header: RawBunchHeader, count: u32) -> BunchFields
-    ensures { λ r. ⌜ (r ≡ fieldsOf header count) × (r .«close_reason» < 7) × (r .«payload_bit_count» ≡ count) ⌝ }
+    ensures { λ r. ⌜ (r ≡ fieldsOf header count) × (r .«close_reason» < closeReasonMaximum) × (r .«payload_bit_count» ≡ count) ⌝ }
 {
     let reason = header.close_reason;
     BunchFields {

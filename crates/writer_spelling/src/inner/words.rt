@@ -1,13 +1,17 @@
 // The header as two words by value: up to its channel, and after it.
 ghost use mathlib.Core.Path.{_≡_};
 ghost use Prim.Native.Nat.{_+_, _^_, _≤_, _<_};
+ghost use Rattle.bitio_window.specs.Widths.{serializedWidth};
 ghost use Rattle.types.specs.Types.{closeReasonMaximum, payloadMaximum};
 ghost use Rattle.writer_spelling.specs.Bits.{numberBits, onlyIf, packedBits, serializedBits};
 ghost use Rattle.writer_spelling.specs.Header.{flagBit, frontBits, backBits};
 ghost use Rattle.writer_spelling.specs.Words.{Whole, Adds, nothing};
 use crate::inner::Bits;
 use bitio_bits::inner::arithmetic::only_if;
+use bitio_window::inner::numbers::serialized_width;
 use packet_header::BunchFields;
+use types::CHANNEL_CLOSE_REASON_MAX;
+use types::MAX_PACKET_SIZE_BITS;
 
 // The number `width` bits wide, above the bits that are there.
 pub fn add(q: Bits, value: u64, width: u64) -> Bits
@@ -44,7 +48,7 @@ fn flag(q: Bits, value: bool) -> Bits
 
 // Seven bits a byte, from the lowest, as long as more follow.
 fn packed(q: Bits, number: u32) -> Bits
-    requires { ⌜ Whole q × (q .count ≤ 9) ⌝ }
+    requires { ⌜ Whole q × (q .count ≤ 16) ⌝ }
     ensures { λ r. ⌜ Adds 40 q (packedBits number) r ⌝ }
 {
     let mut to = q;
@@ -56,20 +60,13 @@ fn packed(q: Bits, number: u32) -> Bits
     add(to, 2 * rest, 8)
 }
 
-// Below 7 a reason takes four bits.
-fn reason_if(q: Bits, wanted: bool, reason: u32) -> Bits
-    requires { ⌜ Whole q × (q .count ≤ 52) × (reason < 7) ⌝ }
-    ensures { λ r. ⌜ Adds 4 q (onlyIf wanted (serializedBits closeReasonMaximum reason)) r ⌝ }
+// As many bits as a read of it takes.
+fn serialized_if(q: Bits, wanted: bool, value: u32, max: u32) -> Bits
+    requires { ⌜ Whole q × (value < max) × (q .count + serializedWidth max value ≤ 56) ⌝ }
+    ensures { λ r. ⌜ Adds (serializedWidth max value) q (onlyIf wanted (serializedBits max value)) r ⌝ }
 {
-    add_if(q, wanted, reason as u64, 4)
-}
-
-// The maximum is a power of two, so no further bit is written.
-fn count(q: Bits, count: u32) -> Bits
-    requires { ⌜ Whole q × (q .count ≤ 42) × (count < payloadMaximum) ⌝ }
-    ensures { λ r. ⌜ Adds 14 q (serializedBits payloadMaximum count) r ⌝ }
-{
-    add(q, count as u64, 14)
+    let number = value as u64;
+    add_if(q, wanted, number, serialized_width(number, max))
 }
 
 fn nothing() -> Bits
@@ -79,14 +76,14 @@ fn nothing() -> Bits
 }
 
 pub fn front(f: BunchFields) -> Bits
-    requires { ⌜ f .«close_reason» < 7 ⌝ }
-    ensures { λ r. ⌜ Adds 49 nothing (frontBits f) r ⌝ }
+    requires { ⌜ f .«close_reason» < closeReasonMaximum ⌝ }
+    ensures { λ r. ⌜ Adds 56 nothing (frontBits f) r ⌝ }
 {
     let control = f.b_open | f.b_close;
     let first = flag(nothing(), control);
     let opens = flag_if(first, control, f.b_open);
     let closes = flag_if(opens, control, f.b_close);
-    let reason = reason_if(closes, f.b_close, f.close_reason);
+    let reason = serialized_if(closes, f.b_close, f.close_reason, CHANNEL_CLOSE_REASON_MAX);
     let paused = flag(reason, f.b_is_replication_paused);
     let reliable = flag(paused, f.b_reliable);
     packed(reliable, f.ch_index)
@@ -94,7 +91,7 @@ pub fn front(f: BunchFields) -> Bits
 
 pub fn back(f: BunchFields) -> Bits
     requires { ⌜ f .«payload_bit_count» < payloadMaximum ⌝ }
-    ensures { λ r. ⌜ Adds 29 nothing (backBits f) r ⌝ }
+    ensures { λ r. ⌜ Adds 47 nothing (backBits f) r ⌝ }
 {
     let named = f.b_reliable | f.b_open;
     let exports = flag(nothing(), f.b_has_package_map_exports);
@@ -105,5 +102,5 @@ pub fn back(f: BunchFields) -> Bits
     let last = flag_if(initial, f.b_partial, f.b_partial_final);
     let hardcoded = flag_if(last, named, false);
     let name = add_if(hardcoded, named, 0, 8);
-    count(name, f.payload_bit_count)
+    serialized_if(name, true, f.payload_bit_count, MAX_PACKET_SIZE_BITS)
 }

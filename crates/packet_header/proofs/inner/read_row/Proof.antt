@@ -1,6 +1,7 @@
 -- A line for each read of the row: it is one step of `fields`.
 use mathlib.Core.Path.{sym, _∙_}
 use mathlib.Core.Bool.{false}
+use Rattle.types.specs.Types.{closeReasonMaximum}
 use Rattle.packet_header.specs.Header.{fields}
 use Rattle.packet_header.proofs.Rows.{begins, step, step-on, ends}
 use borrow.Author.Needs.{needs}
@@ -8,7 +9,7 @@ use Rattle.packet_header.proofs.inner.read_row.Statement.{statement}
 use Rattle.packet_header.proofs.inner.read_row.Tie as tie
 
 returns : tie.Need-returns
-unfolding fields
+unfolding fields closeReasonMaximum
 returns c =
     let d = c .before .before .before .before .before .before .before .before .before .before .before .before .before .before .before .before .before .before .before .before .before .before .args .bytes .now in
     sym (begins fields d (c .before .before .before .before .before .before .before .before .before .before .before .before .before .before .before .before .before .before .before .before .before .before .args .w)

@@ -3,6 +3,7 @@ use Prim.Native.Nat.{_≤_}
 use native.Mathlib.Omega.{arith}
 use borrow.Author.Needs.{needs}
 use Rattle.bitio_window.specs.Parse.{readIf}
+use Rattle.types.specs.Types.{closeReasonMaximum}
 use Rattle.packet_header.specs.Header.{fields}
 use Rattle.packet_header.proofs.Words.{then, gives}
 use Rattle.packet_header.proofs.inner.quick.fields_of.Statement.{statement}
@@ -13,12 +14,12 @@ half : (c : tie.After-flag6) → c .flag6 .result .rest .used ≤ 512
 half c = omega arith
 
 returns : tie.Need-returns
-unfolding fields readIf
+unfolding fields readIf closeReasonMaximum
 returns c =
     then _ (c .before .before .before .before .before .before .before .before .before .before .before .before .before .before .before .before .before .before .flag .ensures .0)
     (then _ (c .before .before .before .before .before .before .before .before .before .before .before .before .before .before .before .before .before .flag2 .ensures .0)
     (then _ (c .before .before .before .before .before .before .before .before .before .before .before .before .before .before .before .before .flag3 .ensures .0)
-    (then _ (c .before .before .before .before .before .before .before .before .before .before .before .before .before .before .before .reason .ensures .0)
+    (then _ (c .before .before .before .before .before .before .before .before .before .before .before .before .before .before .before .serialized .ensures .0)
     (then _ (c .before .before .before .before .before .before .before .before .before .before .before .before .before .before .flag4 .ensures .0)
     (then _ (c .before .before .before .before .before .before .before .before .before .before .before .before .before .flag5 .ensures .0)
     (then _ (c .before .before .before .before .before .before .before .before .before .before .before .before .packed .ensures .0)
@@ -30,7 +31,7 @@ returns c =
     (then _ (c .before .before .before .before .before .before .flag11 .ensures .0)
     (then _ (c .before .before .before .flag12 .ensures .0)
     (then _ (c .before .before .packed2 .ensures .0)
-    (then _ (c .before .count .ensures .0)
+    (then _ (c .before .serialized2 .ensures .0)
     (gives _ _))))))))))))))))
 
 pub fields-of-spec : {M : Type 1} → statement M

@@ -8,8 +8,8 @@ use Rattle.packet_header.proofs.inner.quick.packed.Tie as tie
 
 returns : tie.Need-returns
 returns c =
-    let a = c .before .before .before .before .before .before .before .args in
-    (rw (c .pass .ensures, c .before .low .ensures .0, c .before .before .only-if3 .ensures .0, c .before .before .before .only-if2 .ensures .0, c .before .before .before .before .only-if .ensures .0) (packed-reads (a .q) (a .wanted) _ _ refl refl), rw (c .pass .ensures) (omega arith))
+    let a = c .before .before .before .before .before .before .before .before .before .args in
+    (rw (c .pass .ensures, c .before .low3 .ensures .0, c .before .before .low2 .ensures .0, c .before .before .before .low .ensures .0, c .before .before .before .before .only-if3 .ensures .0, c .before .before .before .before .before .only-if2 .ensures .0, c .before .before .before .before .before .before .only-if .ensures .0) (packed-reads (a .q) (a .wanted) _ _ refl refl), rw (c .pass .ensures) (omega arith))
 
 pub packed-spec : {M : Type 1} → statement M
-packed-spec = tie.close (tie.spec (λ c κs. search needs) (λ c κs. search needs) (λ c. search needs) (λ c κs. search needs) (λ c. search needs) (λ c κs. search needs) (λ c. search needs) (λ c. search needs) (λ c. search needs) (λ c κs. search needs) returns)
+packed-spec = tie.close (tie.spec (λ c κs. search needs) (λ c κs. search needs) (λ c. search needs) (λ c κs. search needs) (λ c. search needs) (λ c κs. search needs) (λ c κs. search needs) (λ c κs. search needs) (λ c. search needs) (λ c. search needs) (λ c. search needs) (λ c κs. search needs) returns)
