@@ -1,3 +1,5 @@
+pub mod Calls
+pub mod Ending
 pub mod Sliding
 pub mod Going
 pub mod Example

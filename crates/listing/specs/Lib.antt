@@ -1,2 +1,4 @@
+pub mod Calls
 pub mod Input
+pub mod Outcomes
 pub mod Listing

@@ -1,4 +1,4 @@
-// Lists a packet log that it reads on standard input; where the listing ends early it says so on standard error.
+// Lists a packet log that it reads on standard input, and says on standard error how the listing ended.
 ghost use mathlib.Core.Path.{_≡_};
 ghost use lib.ListN.{length};
 ghost use Rattle.types.specs.Types.{mostChannels};
@@ -35,7 +35,7 @@ fn main() {
     let mut partial_channels = column();
     let mut partial_sequences = column();
     let mut partial_reliables = column();
-    inner::run::list(
+    let ended = inner::run::list(
         &mut buffer,
         &mut out,
         &mut sequence_channels,
@@ -44,4 +44,6 @@ fn main() {
         &mut partial_sequences,
         &mut partial_reliables,
     );
+    let outcome = ended.outcome;
+    inner::said::say(outcome);
 }

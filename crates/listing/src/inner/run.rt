@@ -6,56 +6,33 @@ ghost use Rattle.packet_reading.specs.Memory.{readerMemory};
 ghost use Rattle.packet_reading.specs.State.{TablesSound};
 ghost use Rattle.log.specs.Log.{entryAt};
 ghost use Rattle.listing.specs.Input.{InBuffer, Short};
+ghost use Rattle.listing.specs.Outcomes.{Concluded, lastLine};
+ghost use Rattle.log_lines.specs.Texts.{written as textWritten};
 ghost use Rattle.log_telling.specs.Turns.{PacketRoom};
 use crate::inner::input;
 use crate::inner::input::Part;
+use crate::inner::outcome;
+use crate::inner::outcome::Outcome;
 use crate::inner::output;
-use libc::STDERR_FILENO;
+use crate::inner::said;
+use libc::STDOUT_FILENO;
 use log::Entry;
 use log::Version;
 use packet_reading::RawPacketReader;
 use types::MAX_ACTIVE_CHANNELS;
 
-fn cut(out: &mut [u8], used: usize, offset: u64)
-    requires { ⌜ PacketRoom (now out) used ⌝ }
-{
-    let end = log_lines::inner::lines::cut_line(out, used, offset);
-    output::flush(out, end);
-    io::write_all(STDERR_FILENO, b"the log ends in a cut record\n");
+// The tables' counts, how much of the lines waits and how much is out, and how the listing ended.
+pub struct Listed {
+    pub reader: RawPacketReader,
+    pub used: usize,
+    pub written: u64,
+    pub outcome: Outcome,
 }
 
-fn other_version(out: &mut [u8], version: u8)
-    requires { ⌜ PacketRoom (now out) 0 ⌝ }
-{
-    let end = log_lines::inner::lines::version_line(out, 0, version);
-    output::flush(out, end);
-    io::write_all(STDERR_FILENO, b"the log is of another version\n");
-}
-
-fn not_ours(out: &mut [u8], version: Version)
-    requires { ⌜ PacketRoom (now out) 0 ⌝ }
-{
-    match version {
-        Version::Missing => cut(out, 0, 0),
-        Version::Other(number) => other_version(out, number),
-        Version::Ours => {}
-    }
-}
-
-// Where nothing more was read the listing ends, and no turn is left: `left` bytes of a record are cut, or the log is whole.
-fn finish(out: &mut [u8], used: usize, left: usize, part: Part, turns: u64) -> u64
-    requires { ⌜ PacketRoom (now out) used ⌝ }
-    ensures { λ r. ⌜ r ≤ turns ⌝ }
-{
-    if part.held != left {
-        return turns;
-    }
-    if left > 0 {
-        cut(out, used, part.before);
-        return 0;
-    }
-    output::flush(out, used);
-    0
+// The same once nothing waits.
+pub struct Ended {
+    pub reader: RawPacketReader,
+    pub outcome: Outcome,
 }
 
 // Two bytes hold its length, so a packet is never above 65,535 bytes.
@@ -75,7 +52,7 @@ fn records(
     partial_channels: &mut [u32],
     partial_sequences: &mut [u32],
     partial_reliables: &mut [u32],
-) -> RawPacketReader
+) -> Listed
     requires { ⌜ (
         let memory = readerMemory (now «sequence_channels») (now «sequence_numbers»)
         (now «partial_channels») (now «partial_sequences») (now «partial_reliables») in
@@ -87,12 +64,15 @@ fn records(
     ensures { λ r. ⌜ (
         let after = readerMemory (now («sequence_channels» .exit)) (now («sequence_numbers» .exit))
         (now («partial_channels» .exit)) (now («partial_sequences» .exit)) (now («partial_reliables» .exit)) in
-        TablesSound mostChannels (r .«live_sequences») (r .«live_partials») after
+        TablesSound mostChannels (r .reader .«live_sequences») (r .reader .«live_partials») after
+        × PacketRoom (now (out .exit)) (r .used)
         ) ⌝ }
 {
     let mut part = first;
     let mut at: usize = 1;
     let mut used: usize = 0;
+    let mut written: u64 = 0;
+    let mut outcome = Outcome::GoesOn;
     let mut live_sequences: usize = 0;
     let mut live_partials: usize = 0;
     let mut turns = u64::MAX;
@@ -124,22 +104,50 @@ fn records(
                 partial_sequences,
                 partial_reliables,
             );
-            used = output::with_room(out, told.end);
+            let room = output::with_room(out, told.end, written);
+            used = room.used;
+            written = room.written;
+            outcome = room.outcome;
             live_sequences = told.live_sequences;
             live_partials = told.live_partials;
             at = to;
+            turns = outcome::turns_left(turns, outcome);
         } else {
             let left = held - at;
-            part = input::refill(buffer, part, at);
+            let refilled = input::refill(buffer, part, at);
+            part = refilled.part;
             at = 0;
-            turns = finish(out, used, left, part, turns);
+            let moved = refilled.moved;
+            outcome = outcome::after_read(moved, left, part.before);
+            turns = outcome::turns_left(turns, outcome);
         }
     }
-    RawPacketReader {
-        max_channels: MAX_ACTIVE_CHANNELS,
-        live_sequences,
-        live_partials,
+    Listed {
+        reader: RawPacketReader {
+            max_channels: MAX_ACTIVE_CHANNELS,
+            live_sequences,
+            live_partials,
+        },
+        used,
+        written,
+        outcome,
     }
+}
+
+// The last line, where there is one, and all that waits. After a write that failed nothing more is written.
+fn conclude(out: &mut [u8], used: usize, written: u64, outcome: Outcome) -> Outcome
+    requires { ⌜ PacketRoom (now out) used ⌝ }
+    ensures { λ r. ⌜
+        (now (out .exit) ≡ textWritten (now (out .entry)) used (lastLine outcome)) × Concluded outcome r
+        ⌝ }
+{
+    if let Outcome::WriteFailed { at: _, error: _ } = outcome {
+        return outcome;
+    }
+    let end = said::last_line(out, used, outcome);
+    let flushed = output::flush(STDOUT_FILENO, out, end);
+    let all = std::num::wrapping_add_u64(written, flushed.bytes as u64);
+    outcome::after_flush(outcome, end, flushed.bytes, all, flushed.error)
 }
 
 // The tables are sound to the end.
@@ -151,7 +159,7 @@ pub fn list(
     partial_channels: &mut [u32],
     partial_sequences: &mut [u32],
     partial_reliables: &mut [u32],
-) -> RawPacketReader
+) -> Ended
     requires { ⌜ (
         let memory = readerMemory (now «sequence_channels») (now «sequence_numbers»)
         (now «partial_channels») (now «partial_sequences») (now «partial_reliables») in
@@ -161,14 +169,15 @@ pub fn list(
     ensures { λ r. ⌜ (
         let after = readerMemory (now («sequence_channels» .exit)) (now («sequence_numbers» .exit))
         (now («partial_channels» .exit)) (now («partial_sequences» .exit)) (now («partial_reliables» .exit)) in
-        TablesSound mostChannels (r .«live_sequences») (r .«live_partials») after
+        TablesSound mostChannels (r .reader .«live_sequences») (r .reader .«live_partials») after
         ) ⌝ }
 {
-    let part = input::refill(buffer, Part { before: 0, held: 0 }, 0);
+    let refilled = input::refill(buffer, Part { before: 0, held: 0 }, 0);
+    let part = refilled.part;
     let held = part.held;
     let version = log::reading::version(&buffer[..held]);
     if let Version::Ours = version {
-        return records(
+        let listed = records(
             buffer,
             out,
             part,
@@ -178,11 +187,21 @@ pub fn list(
             partial_sequences,
             partial_reliables,
         );
+        let reader = listed.reader;
+        let reached = listed.outcome;
+        return Ended {
+            reader,
+            outcome: conclude(out, listed.used, listed.written, reached),
+        };
     }
-    not_ours(out, version);
-    RawPacketReader {
-        max_channels: MAX_ACTIVE_CHANNELS,
-        live_sequences: 0,
-        live_partials: 0,
+    let moved = refilled.moved;
+    let outcome = outcome::opened(version, moved);
+    Ended {
+        reader: RawPacketReader {
+            max_channels: MAX_ACTIVE_CHANNELS,
+            live_sequences: 0,
+            live_partials: 0,
+        },
+        outcome: conclude(out, 0, 0, outcome),
     }
 }
