@@ -1,8 +1,8 @@
 -- The words of what the call answers.
 use mathlib.Core.Path.{_∙_}
 use borrow.Author.Needs.{needs}
-use Rattle.exports_reader.proofs.gritwheel_reader_read_int_packed.Statement.{statement}
-use Rattle.exports_reader.proofs.gritwheel_reader_read_int_packed.Tie as tie
+use Rattle.exports_reader.proofs.reads.gritwheel_reader_read_int_packed.Statement.{statement}
+use Rattle.exports_reader.proofs.reads.gritwheel_reader_read_int_packed.Tie as tie
 
 returns : tie.Need-returns
 returns c = c .of-u32 .ensures ∙ rw (c .before .read-int-packed .ensures, c .before .before .window-at .ensures)
