@@ -79,7 +79,9 @@ enum gritwheel_refusal {
     GRITWHEEL_LIST_FULL = 14,            /* record list full: the position of that record's start; draining: places needed */
     GRITWHEEL_FUNCTION_COUNT_0 = 15,     /* function count 0: nothing */
     GRITWHEEL_UNWRITABLE = 16,           /* header can't be written: nothing */
-    GRITWHEEL_NO_ROOM = 17               /* no room for the bunch or end mark: the packet's bits with it */
+    GRITWHEEL_NO_ROOM = 17,              /* no room for the bunch or end mark: the packet's bits with it */
+    GRITWHEEL_NO_STREAM = 255            /* a word that says no stream, of gritwheel_list_records alone: the word. Document 01
+                                            has no such number */
 };
 
 enum {
@@ -144,7 +146,9 @@ void gritwheel_read_u64(const uint8_t *bytes, size_t n, uint64_t start, uint64_t
                         uint64_t out[GRITWHEEL_ANSWER_WORDS]);
 
 /* An IEEE-754 single or double. Word 1 is 0: `*value` is the number. Word 1 is 1: the bits are a NaN's, word 2 has them, and
- * `*value` stays as it was. It also stays where the call refuses. */
+ * `*value` stays as it was. It also stays where the call refuses. `*value` is stored where there is a number, which is no NaN,
+ * and never loaded: a NaN that stands there keeps its bits. What is proved is said of a `*value` that holds a float, so give it
+ * one before the call. */
 void gritwheel_read_f32(const uint8_t *bytes, size_t n, uint64_t start, uint64_t position, uint64_t length, float *value,
                         uint64_t out[GRITWHEEL_ANSWER_WORDS]);
 void gritwheel_read_f64(const uint8_t *bytes, size_t n, uint64_t start, uint64_t position, uint64_t length, double *value,
@@ -219,7 +223,10 @@ void gritwheel_parse_class_net_cache(const uint8_t *bytes, size_t n, uint64_t st
 /* The same walks into a list of field records: the walk runs on `numbers` first, and then a record is written for each place
  * that it filled. A record has a place where both lists have one, so 14 comes where the shorter list is full; places of
  * `records` after the last one, and of `numbers` after the first `i`, stay as they were. `stream` is 0 for RepLayout, 1 for
- * RepLayout with its tail kept, any other the class net cache; `function_count` is looked at there alone. */
+ * RepLayout with its tail kept, 2 for the class net cache; `function_count` is looked at there alone. Any other word is 255, in
+ * 15's place: after 7 and 5, with nothing written to either list. */
+enum gritwheel_stream { GRITWHEEL_REP_LAYOUT = 0, GRITWHEEL_REP_LAYOUT_CONTENT_BLOCK = 1, GRITWHEEL_CLASS_NET_CACHE = 2 };
+
 typedef struct gritwheel_field_record {
     uint32_t handle;
     uint32_t bit_count;
@@ -381,9 +388,9 @@ enum gritwheel_fragment {
     GRITWHEEL_F_HEADER = 4,           /* to 23: the fragment's header afterwards */
     GRITWHEEL_F_SHOULD_PROCESS = 24,  /* 1: the message is finished and can be taken */
     GRITWHEEL_F_RESOURCE_LIMIT = 25,  /* an enum gritwheel_limit */
-    GRITWHEEL_F_DISCARDED_BITS = 26,  /* of displaced messages and, where it isn't kept, of the fragment */
+    GRITWHEEL_F_DISCARDED_BITS = 26,  /* of all that the call displaced or didn't keep, each once */
     GRITWHEEL_F_ERROR_KIND = 27,      /* an enum gritwheel_kind */
-    GRITWHEEL_F_OVERLAPPING_INITIAL = 28,
+    GRITWHEEL_F_OVERLAPPING_INITIAL = 28, /* 1: it replaced an unfinished message, or that kind came in with the header */
     GRITWHEEL_F_ERRORS = 29,          /* to 31: by how much the Rust's counts rise */
     GRITWHEEL_F_FRAGMENTS = 30,
     GRITWHEEL_F_COMPLETED = 31,
@@ -406,7 +413,11 @@ enum gritwheel_limit { GRITWHEEL_LIMIT_NONE = 0, GRITWHEEL_ACTIVE_STATES = 1, GR
 /* Adds a fragment of `bits` bits on a channel. 10, 11, 12, 13. The channel is `ch_index`; the header's own channel, count and
  * partial flag aren't looked at. A caller that hands on the packet reader's bunches hands on those with GRITWHEEL_H_B_PARTIAL
  * alone, and clears GRITWHEEL_H_HAS_PARTIAL_ERROR and GRITWHEEL_H_IS_PARTIAL_COMPLETED first: that reader's tracking is advice,
- * and a final with the error flag is discarded. */
+ * and a final with the error flag is discarded.
+ *
+ * A fragment that isn't kept can be the second displaced message, and then its bits are counted there: over 16 unfinished bits
+ * an initial that is final, of 8, discards 24. One case reports fewer: a final of no bits that continues a message and came in
+ * with the error flag retires it, and none of its bits are counted. */
 void gritwheel_add_fragment(size_t max_active, uint64_t max_buffered_bits, size_t active, uint64_t total, uint32_t ch_index,
                             const uint64_t header[GRITWHEEL_HEADER_WORDS], const uint8_t *payload, size_t n, uint64_t bits,
                             uint32_t *channels, size_t i, gritwheel_place *places, size_t j, uint8_t *arena, size_t k,

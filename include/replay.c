@@ -1,4 +1,4 @@
-/* Replays recorded answers through gritwheel.h: replay LIST
+/* Replays recorded answers through gritwheel.h, those of the bit reader through the reader that keeps its slice too: replay LIST
  *
  * A record is a line; oracle/driver/line.rs has its fields, and the records.rs of each part what they are for its calls. Every
  * word of an answer and all that is lent is held to the record. What differs is told with the record's number, and a record that
@@ -134,28 +134,56 @@ static void no_such_size(void) { fault("data or lent memory of a size that its c
 
 /* ---- The bit reader ----------------------------------------------------------------------------------------------------- */
 
-/* A number's bits are recorded where our word is 0 and the float goes out beside it; a NaN there counts as all ones. */
-static void read_f32(size_t n, uint64_t start, uint64_t position, uint64_t length) {
-    const float unread = 7;
-    float value = unread;
-    gritwheel_read_f32(data, n, start, position, length, &value, out);
-    uint32_t bits;
+/* The reader that keeps its slice has a call for each of its methods too (libexports_reader.a). They answer as those of
+ * gritwheel.h do and stand in no header. */
+#define WINDOW const uint8_t *bytes, size_t n, uint64_t start, uint64_t position, uint64_t length
+void gritwheel_reader_new(const uint8_t *bytes, size_t n, uint64_t *out);
+void gritwheel_reader_with_bit_len(const uint8_t *bytes, size_t n, uint64_t bit_len, uint64_t *out);
+uint64_t gritwheel_reader_position(WINDOW);
+uint64_t gritwheel_reader_len_bits(WINDOW);
+bool gritwheel_reader_at_end(WINDOW);
+void gritwheel_reader_bits_remaining(WINDOW, uint64_t *out);
+void gritwheel_reader_read_bit(WINDOW, uint64_t *out);
+void gritwheel_reader_read_bits(WINDOW, uint32_t count, uint64_t *out);
+void gritwheel_reader_read_u8(WINDOW, uint64_t *out);
+void gritwheel_reader_read_u16(WINDOW, uint64_t *out);
+void gritwheel_reader_read_u32(WINDOW, uint64_t *out);
+void gritwheel_reader_read_i32(WINDOW, uint64_t *out);
+void gritwheel_reader_read_u64(WINDOW, uint64_t *out);
+void gritwheel_reader_read_f32(WINDOW, float *value, uint64_t *out);
+void gritwheel_reader_read_f64(WINDOW, double *value, uint64_t *out);
+void gritwheel_reader_read_int_packed(WINDOW, uint64_t *out);
+void gritwheel_reader_read_serialized_int(WINDOW, uint32_t max, uint64_t *out);
+void gritwheel_reader_copy_bits_to(WINDOW, uint8_t *target, size_t m, uint64_t count, uint64_t *out);
+void gritwheel_reader_sub_reader(WINDOW, uint64_t count, uint64_t *out);
+void gritwheel_reader_skip_bits(WINDOW, uint64_t count, uint64_t *out);
+void gritwheel_reader_skip_remaining(WINDOW, uint64_t *out);
+
+/* A number's bits are recorded where our word is 0 and the float goes out beside it; a NaN there counts as all ones. What is lent
+ * before is a NaN, and stays to the last bit where no number is read. */
+static void read_f32(void (*read)(WINDOW, float *value, uint64_t *out)) {
+    uint32_t bits = 0x7fa5a5a5;
+    const uint32_t unread = bits;
+    float value;
+    memcpy(&value, &bits, sizeof value);
+    read(data, (size_t)record.n, record.start, record.position, record.length, &value, out);
     memcpy(&bits, &value, sizeof bits);
     if (out[0] == 0 && out[1] == 0)
         out[2] = isnan(value) ? UINT64_MAX : bits;
-    else if (value != unread)
+    else if (bits != unread)
         fault("the float was written");
 }
 
-static void read_f64(size_t n, uint64_t start, uint64_t position, uint64_t length) {
-    const double unread = 7;
-    double value = unread;
-    gritwheel_read_f64(data, n, start, position, length, &value, out);
-    uint64_t bits;
+static void read_f64(void (*read)(WINDOW, double *value, uint64_t *out)) {
+    uint64_t bits = 0x7ff4a5a5a5a5a5a5;
+    const uint64_t unread = bits;
+    double value;
+    memcpy(&value, &bits, sizeof value);
+    read(data, (size_t)record.n, record.start, record.position, record.length, &value, out);
     memcpy(&bits, &value, sizeof bits);
     if (out[0] == 0 && out[1] == 0)
         out[2] = isnan(value) ? UINT64_MAX : bits;
-    else if (value != unread)
+    else if (bits != unread)
         fault("the float was written");
 }
 
@@ -165,12 +193,9 @@ static void plain(uint64_t answer) {
     memcpy(out, words, sizeof words);
 }
 
-static void read_bits(void) {
+static void ask_window(void) {
     const uint64_t s = record.start, p = record.position, l = record.length, a = record.argument;
     const size_t n = (size_t)record.n;
-    if ((record.call == 8 || record.call == 17) && too_wide(a))
-        return;
-    unwrite(FIRST_WORDS, FIRST_WORDS);
     switch (record.call) {
     case 1: gritwheel_new(data, n, out); break;
     case 2: gritwheel_with_bit_len(data, n, a, out); break;
@@ -185,8 +210,8 @@ static void read_bits(void) {
     case 11: gritwheel_read_u32(data, n, s, p, l, out); break;
     case 12: gritwheel_read_i32(data, n, s, p, l, out); break;
     case 13: gritwheel_read_u64(data, n, s, p, l, out); break;
-    case 14: read_f32(n, s, p, l); break;
-    case 15: read_f64(n, s, p, l); break;
+    case 14: read_f32(gritwheel_read_f32); break;
+    case 15: read_f64(gritwheel_read_f64); break;
     case 16: gritwheel_read_int_packed(data, n, s, p, l, out); break;
     case 17: gritwheel_read_serialized_int(data, n, s, p, l, (uint32_t)a, out); break;
     case 18: gritwheel_copy_bits_to(data, n, s, p, l, lent, (size_t)record.m, a, out); break;
@@ -194,8 +219,47 @@ static void read_bits(void) {
     case 20: gritwheel_skip_bits(data, n, s, p, l, a, out); break;
     case 21: gritwheel_skip_remaining(data, n, s, p, l, out); break;
     }
-    same_words(FIRST_WORDS);
-    same_bytes(lent, (size_t)record.m, record.after);
+}
+
+static void ask_reader(void) {
+    const uint64_t s = record.start, p = record.position, l = record.length, a = record.argument;
+    const size_t n = (size_t)record.n;
+    switch (record.call) {
+    case 1: gritwheel_reader_new(data, n, out); break;
+    case 2: gritwheel_reader_with_bit_len(data, n, a, out); break;
+    case 3: plain(gritwheel_reader_position(data, n, s, p, l)); break;
+    case 4: plain(gritwheel_reader_len_bits(data, n, s, p, l)); break;
+    case 5: gritwheel_reader_bits_remaining(data, n, s, p, l, out); break;
+    case 6: plain(gritwheel_reader_at_end(data, n, s, p, l)); break;
+    case 7: gritwheel_reader_read_bit(data, n, s, p, l, out); break;
+    case 8: gritwheel_reader_read_bits(data, n, s, p, l, (uint32_t)a, out); break;
+    case 9: gritwheel_reader_read_u8(data, n, s, p, l, out); break;
+    case 10: gritwheel_reader_read_u16(data, n, s, p, l, out); break;
+    case 11: gritwheel_reader_read_u32(data, n, s, p, l, out); break;
+    case 12: gritwheel_reader_read_i32(data, n, s, p, l, out); break;
+    case 13: gritwheel_reader_read_u64(data, n, s, p, l, out); break;
+    case 14: read_f32(gritwheel_reader_read_f32); break;
+    case 15: read_f64(gritwheel_reader_read_f64); break;
+    case 16: gritwheel_reader_read_int_packed(data, n, s, p, l, out); break;
+    case 17: gritwheel_reader_read_serialized_int(data, n, s, p, l, (uint32_t)a, out); break;
+    case 18: gritwheel_reader_copy_bits_to(data, n, s, p, l, lent, (size_t)record.m, a, out); break;
+    case 19: gritwheel_reader_sub_reader(data, n, s, p, l, a, out); break;
+    case 20: gritwheel_reader_skip_bits(data, n, s, p, l, a, out); break;
+    case 21: gritwheel_reader_skip_remaining(data, n, s, p, l, out); break;
+    }
+}
+
+static void read_bits(void) {
+    static void (*const asks[2])(void) = {ask_window, ask_reader};
+    if ((record.call == 8 || record.call == 17) && too_wide(record.argument))
+        return;
+    for (size_t i = 0; i < 2; i++) {
+        memcpy(lent, record.before, (size_t)record.m);
+        unwrite(FIRST_WORDS, FIRST_WORDS);
+        asks[i]();
+        same_words(FIRST_WORDS);
+        same_bytes(lent, (size_t)record.m, record.after);
+    }
 }
 
 /* ---- The walks: what is lent is the answer's eighth word and the places, words of 64 bits ------------------------------- */
@@ -211,19 +275,21 @@ static void put_places(gritwheel_record *places, size_t k, const uint8_t *from) 
     }
 }
 
-static void walk(void) {
-    const uint64_t s = record.start, p = record.position, l = record.length;
-    const size_t n = (size_t)record.n, k = (size_t)record.m / PLACE_BYTES;
-    gritwheel_record places[MOST_PLACES], expected[MOST_PLACES];
-    if (record.m != 8 + PLACE_BYTES * k) {
-        no_such_size();
-        return;
+static void same_places(const gritwheel_record *places, size_t k, const gritwheel_record *expected) {
+    for (size_t i = 0; i < k; i++) {
+        same("handle in place", i, places[i].handle, expected[i].handle);
+        same("bit count in place", i, places[i].bit_count, expected[i].bit_count);
+        same("position in place", i, places[i].position, expected[i].position);
+        same("start in place", i, places[i].start_bit, expected[i].start_bit);
     }
-    if (too_wide(record.argument))
-        return;
-    recorded[GRITWHEEL_W_COUNT] = big_endian(record.after, 8);
+}
+
+/* The walk on numbers. */
+static void walk_numbers(size_t k, const gritwheel_record *expected) {
+    const uint64_t s = record.start, p = record.position, l = record.length;
+    const size_t n = (size_t)record.n;
+    gritwheel_record places[MOST_PLACES];
     put_places(places, k, record.before + 8);
-    put_places(expected, k, record.after + 8);
     unwrite(GRITWHEEL_WALK_WORDS, GRITWHEEL_WALK_WORDS);
     switch (record.call) {
     case 22: gritwheel_parse_rep_layout(data, n, s, p, l, places, k, out); break;
@@ -231,12 +297,49 @@ static void walk(void) {
     case 24: gritwheel_parse_class_net_cache(data, n, s, p, l, (uint32_t)record.argument, places, k, out); break;
     }
     same_words(GRITWHEEL_WALK_WORDS);
+    same_places(places, k, expected);
+}
+
+/* The same into a list of field records, by the stream's word: a record for each place that was written, and no other. */
+static void walk_records(uint32_t word, size_t k, const gritwheel_record *expected) {
+    const gritwheel_field_record unwritten = {0xc3a5c3a5, 0x5a3c5a3c, 0xa5a5a5a5a5a5a5a5, 0xa5a5a5a5a5a5a5a5};
+    gritwheel_record places[MOST_PLACES];
+    gritwheel_field_record records[MOST_PLACES];
+    put_places(places, k, record.before + 8);
+    for (size_t i = 0; i < k; i++)
+        records[i] = unwritten;
+    unwrite(GRITWHEEL_WALK_WORDS, GRITWHEEL_WALK_WORDS);
+    gritwheel_list_records(data, (size_t)record.n, record.start, record.position, record.length, word, (uint32_t)record.argument,
+                           records, k, places, k, out);
+    same_words(GRITWHEEL_WALK_WORDS);
+    same_places(places, k, expected);
     for (size_t i = 0; i < k; i++) {
-        same("handle in place", i, places[i].handle, expected[i].handle);
-        same("bit count in place", i, places[i].bit_count, expected[i].bit_count);
-        same("position in place", i, places[i].position, expected[i].position);
-        same("start in place", i, places[i].start_bit, expected[i].start_bit);
+        const bool written = i < recorded[GRITWHEEL_W_COUNT];
+        same("handle in record", i, records[i].handle, written ? expected[i].handle : unwritten.handle);
+        same("bit count in record", i, records[i].bit_count, written ? expected[i].bit_count : unwritten.bit_count);
+        same("position in record", i, records[i].in_window, written ? expected[i].position : unwritten.in_window);
+        same("start in record", i, records[i].in_packet, written ? expected[i].start_bit : unwritten.in_packet);
     }
+}
+
+/* Each walk both ways. By its number alone, 25, the list of field records has its word above the function count. */
+static void walk(void) {
+    const size_t k = (size_t)record.m / PLACE_BYTES;
+    gritwheel_record expected[MOST_PLACES];
+    if (record.m != 8 + PLACE_BYTES * k) {
+        no_such_size();
+        return;
+    }
+    recorded[GRITWHEEL_W_COUNT] = big_endian(record.after, 8);
+    put_places(expected, k, record.after + 8);
+    if (record.call == 25) {
+        walk_records((uint32_t)(record.argument >> 32), k, expected);
+        return;
+    }
+    if (too_wide(record.argument))
+        return;
+    walk_numbers(k, expected);
+    walk_records((uint32_t)(record.call - 22), k, expected);
 }
 
 /* ---- The packet reader: what is lent is the answer's words from the eighth on and five columns, words of 32 bits -------- */
@@ -447,8 +550,8 @@ static struct desk_check {
     bool met;
 } desk_checks[3] = {
     {1058, "Nine, count 1: one empty record.", nine_of_one, false},
-    {2162, "16 unfinished bits, initial and final of 8: errors 1, two displaced, 24 discarded.", over_unfinished, false},
-    {2164, "16 finished bits, continuation of 8: missing initial, 24 discarded.", over_finished, false},
+    {2170, "16 unfinished bits, initial and final of 8: errors 1, two displaced, 24 discarded.", over_unfinished, false},
+    {2172, "16 finished bits, continuation of 8: missing initial, 24 discarded.", over_finished, false},
 };
 
 static void desk_check(void) {
@@ -468,7 +571,7 @@ static void replay(void) {
     memcpy(lent, record.before, (size_t)record.m);
     if (1 <= record.call && record.call <= 21)
         read_bits();
-    else if (22 <= record.call && record.call <= 24)
+    else if (22 <= record.call && record.call <= 25)
         walk();
     else if (record.call == 26)
         read_bunch();

@@ -173,6 +173,18 @@ static void walks(void) {
     CHECK(EIGHT(14, 1, 0, 0, 0, 1, 32, 0));
     gritwheel_list_records(layout, 5, 0, 0, 32, 0, 0, records, 2, list, 0, out);
     CHECK(EIGHT(14, 1, 0, 0, 0, 1, 32, 0));
+    /* The class net cache by its word, its own 15, and a word that says no stream, also after 5. */
+    gritwheel_list_records((const uint8_t[]){0, 0}, 2, 0, 0, 9, GRITWHEEL_CLASS_NET_CACHE, 1, records, 2, list, 2, out);
+    CHECK(EIGHT(0, 0, 0, 0, 0, 9, 9, 1) && records[0].handle == 0 && records[0].in_packet == 9);
+    memset(records, 0x55, sizeof records);
+    memset(list, 0x55, sizeof list);
+    gritwheel_list_records(layout, 5, 0, 0, 32, GRITWHEEL_CLASS_NET_CACHE, 0, records, 2, list, 2, out);
+    CHECK(EIGHT(GRITWHEEL_FUNCTION_COUNT_0, 0, 0, 0, 0, 0, 32, 0));
+    gritwheel_list_records(layout, 5, 0, 0, 32, 3, 1, records, 2, list, 2, out);
+    CHECK(EIGHT(GRITWHEEL_NO_STREAM, 3, 0, 0, 0, 0, 32, 0));
+    gritwheel_list_records(layout, 5, 0, 0, 41, UINT32_MAX, 1, records, 2, list, 2, out);
+    CHECK(EIGHT(GRITWHEEL_BIT_LENGTH, 41, 40, 0, 0, 0, 41, 0));
+    CHECK(records[0].handle == 0x55555555u && list[0].handle == 0x5555555555555555u);
 }
 
 /* A packet reader with room for four channels. */

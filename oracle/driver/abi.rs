@@ -139,11 +139,32 @@ reads! {
 }
 
 // Through the reader that keeps its slice (crates/bitio_reader).
+unsafe extern "C" {
+    pub fn gritwheel_reader_new(bytes: *const u8, n: usize, out: *mut Out);
+    pub fn gritwheel_reader_with_bit_len(bytes: *const u8, n: usize, bit_len: u64, out: *mut Out);
+    pub fn gritwheel_reader_position(bytes: *const u8, n: usize, start: u64, position: u64, length: u64) -> u64;
+    pub fn gritwheel_reader_len_bits(bytes: *const u8, n: usize, start: u64, position: u64, length: u64) -> u64;
+    pub fn gritwheel_reader_at_end(bytes: *const u8, n: usize, start: u64, position: u64, length: u64) -> u8;
+}
+
 reads! {
     Out;
+    gritwheel_reader_bits_remaining();
+    gritwheel_reader_read_bit();
     gritwheel_reader_read_bits(count: u32);
+    gritwheel_reader_read_u8();
+    gritwheel_reader_read_u16();
+    gritwheel_reader_read_u32();
+    gritwheel_reader_read_i32();
+    gritwheel_reader_read_u64();
+    gritwheel_reader_read_f32(value: *mut f32);
+    gritwheel_reader_read_f64(value: *mut f64);
     gritwheel_reader_read_int_packed();
     gritwheel_reader_read_serialized_int(max: u32);
+    gritwheel_reader_copy_bits_to(target: *mut u8, m: usize, count: u64);
+    gritwheel_reader_sub_reader(count: u64);
+    gritwheel_reader_skip_bits(count: u64);
+    gritwheel_reader_skip_remaining();
 }
 
 reads! {

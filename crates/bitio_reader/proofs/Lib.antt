@@ -7,6 +7,8 @@ pub mod Asking
 pub mod Telling
 pub mod Handing
 pub mod Opens
+pub mod Apart
 pub mod Lent
+pub mod Looking
 pub mod Through
 pub mod Determined

@@ -48,10 +48,10 @@ fn front(packet: &[u8], bit_len: u64) -> DoneRead
 }
 
 // What cutting a window out answers: the answer, the window that was cut out, and where the reader then stands.
-struct Cut {
-    answer: Done,
-    child: Window,
-    next: Window,
+pub struct Cut {
+    pub answer: Done,
+    pub child: Window,
+    pub next: Window,
 }
 
 fn cut_out(packet: &[u8], w: Window, count: u64) -> Cut

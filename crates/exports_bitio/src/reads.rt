@@ -5,6 +5,8 @@ ghost use Rattle.bitio_window.specs.Numbers.{readPacked, readSerialized};
 ghost use Rattle.bitio_window.specs.Windows.{windowAt};
 ghost use Rattle.exports_words.specs.Words.{words, one, flagWord, signedWord, pattern, float};
 use bitio::reads;
+use bitio_window::F32;
+use bitio_window::F64;
 use exports_words::words;
 use exports_words::words::Words;
 
@@ -128,7 +130,10 @@ pub extern "C" fn gritwheel_read_f32(
     let read = reads::read_f32(bytes, words::window_at(start, position, length));
     let answer = words::of_f32(read);
     *out = answer;
-    *value = words::f32_kept(*value, read);
+    let found = read.answer;
+    if let F32::Value(single) = found {
+        *value = single;
+    }
 }
 
 #[no_mangle]
@@ -148,7 +153,10 @@ pub extern "C" fn gritwheel_read_f64(
     let read = reads::read_f64(bytes, words::window_at(start, position, length));
     let answer = words::of_f64(read);
     *out = answer;
-    *value = words::f64_kept(*value, read);
+    let found = read.answer;
+    if let F64::Value(double) = found {
+        *value = double;
+    }
 }
 
 #[no_mangle]

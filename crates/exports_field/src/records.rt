@@ -4,31 +4,55 @@ ghost use mathlib.Core.List.{[]};
 ghost use Rattle.bitio_window.specs.Windows.{windowAt};
 ghost use Rattle.field_walking.specs.Answers.{ofWalk};
 ghost use Rattle.exports_words.specs.Walks.{walkWords};
-ghost use Rattle.field_records.specs.Walks.{listedRecords};
-ghost use Rattle.exports_field.specs.Streams.{streamOf};
+ghost use Rattle.field_records.specs.Walks.{listedRecords, ofLists};
+ghost use Rattle.exports_field.specs.Streams.{listedBy, streamOf, countOf, toldOf};
+use bitio_window::Window;
 use exports_words::words;
 use exports_words::words::WalkWords;
-use field_records::Stream;
 use field_records::walks;
 use field_walking::FieldRecord;
 use field_walking::Record;
 use field_walking::Walk;
 
-fn stream_of(stream: u32, function_count: u32) -> Stream
-    ensures { λ r. ⌜ r ≡ streamOf stream «function_count» ⌝ }
+// Of no function where the word says no stream.
+fn count_of(stream: u32, function_count: u32) -> u32
+    ensures { λ r. ⌜ r ≡ countOf stream «function_count» ⌝ }
+{
+    if stream == 2 { function_count } else { 0 }
+}
+
+fn list(
+    bytes: &[u8],
+    w: Window,
+    stream: u32,
+    count: u32,
+    records: &mut [FieldRecord],
+    numbers: &mut [Record],
+) -> Walk
+    ensures { λ r. ⌜
+        ofLists r (now (records .exit)) (now (numbers .exit))
+        ≡ listedRecords (streamOf stream count) (now (bytes .entry)) (now (records .entry)) (now (numbers .entry)) w
+        ⌝ }
 {
     match stream {
-        0 => Stream::RepLayout,
-        1 => Stream::RepLayoutContentBlock,
-        _ => Stream::ClassNetCache(function_count),
+        0 => walks::parse_rep_layout(bytes, w, records, numbers),
+        1 => walks::parse_rep_layout_content_block(bytes, w, records, numbers),
+        _ => walks::parse_class_net_cache(bytes, w, count, records, numbers),
     }
 }
 
-// The words of a walk's answer: they say nothing of its places.
-fn tell(walk: Walk, out: &mut WalkWords)
-    ensures { λ r. ⌜ now (out .exit) ≡ walkWords (ofWalk walk []) ⌝ }
+// The words of a walk's answer: they say nothing of its places. Where the word says no stream, 255 and the word stand in 15's
+// place.
+fn tell(stream: u32, walk: Walk, out: &mut WalkWords)
+    ensures { λ r. ⌜ now (out .exit) ≡ toldOf stream (walkWords (ofWalk walk [])) ⌝ }
 {
-    let answer = words::of_walk(walk);
+    let mut answer = words::of_walk(walk);
+    if stream > 2 {
+        if answer[0] == 15 {
+            answer[0] = 255;
+            answer[1] = stream as u64;
+        }
+    }
     *out = answer;
 }
 
@@ -45,7 +69,7 @@ pub extern "C" fn gritwheel_list_records(
     out: &mut WalkWords,
 )
     ensures { λ r. ⌜ (
-        let listed = listedRecords (streamOf stream «function_count») (now (bytes .entry)) (now (records .entry)) (now (numbers .entry))
+        let listed = listedBy stream «function_count» (now (bytes .entry)) (now (records .entry)) (now (numbers .entry))
         (windowAt start position length) in
         (now (out .exit) ≡ walkWords (listed .walked))
         × (now (records .exit) ≡ listed .records)
@@ -53,12 +77,7 @@ pub extern "C" fn gritwheel_list_records(
         ) ⌝ }
 {
     let w = words::window_at(start, position, length);
-    let walk = walks::parse(
-        bytes,
-        w,
-        stream_of(stream, function_count),
-        records,
-        numbers,
-    );
-    tell(walk, out);
+    let count = count_of(stream, function_count);
+    let walk = list(bytes, w, stream, count, records, numbers);
+    tell(stream, walk, out);
 }

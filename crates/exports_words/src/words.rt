@@ -6,7 +6,7 @@ ghost use Rattle.bitio_window.specs.Refusals.{paper};
 ghost use Rattle.bitio_window.specs.Answers.{ofDone, ofBit, ofU8, ofU16, ofU32, ofI32, ofU64, ofF32, ofF64, ofSub, ofOpened, ofCount};
 ghost use Rattle.bitio_window.specs.Windows.{windowAt};
 ghost use Rattle.exports_words.specs.Words.{seven, refusalWords, words, openedWords, countWords, none, one, flagWord};
-ghost use Rattle.exports_words.specs.Words.{signedWord, windowWords, pattern, float};
+ghost use Rattle.exports_words.specs.Words.{signedWord, windowWords, pattern};
 ghost use Rattle.field_walking.specs.Answers.{fieldPaper, stopAnswer};
 ghost use Rattle.exports_words.specs.Walks.{stopWords};
 use bitio_bits::inner::signed;
@@ -167,18 +167,6 @@ pub fn of_i32(r: I32Read) -> Words
     }
 }
 
-// The float, where there is one, else the one that was there.
-pub fn f32_kept(before: f32, r: F32Read) -> f32
-    ensures { λ x. ⌜ x ≡ float before (ofF32 r) ⌝ }
-{
-    let answer = r.answer;
-    match answer {
-        F32::Value(x) => x,
-        F32::NotANumber(_) => before,
-        F32::Refused(_) => before,
-    }
-}
-
 pub fn of_f32(r: F32Read) -> Words
     ensures { λ x. ⌜ x ≡ words pattern (ofF32 r) ⌝ }
 {
@@ -188,18 +176,6 @@ pub fn of_f32(r: F32Read) -> Words
         F32::Value(_) => seven(0, 0, 0, 0, next),
         F32::NotANumber(b) => seven(0, 1, b as u64, 0, next),
         F32::Refused(e) => refused(e, next),
-    }
-}
-
-// The float, where there is one, else the one that was there.
-pub fn f64_kept(before: f64, r: F64Read) -> f64
-    ensures { λ x. ⌜ x ≡ float before (ofF64 r) ⌝ }
-{
-    let answer = r.answer;
-    match answer {
-        F64::Value(x) => x,
-        F64::NotANumber(_) => before,
-        F64::Refused(_) => before,
     }
 }
 

@@ -1,7 +1,7 @@
 // The expected answers: the Rust's on its domain, and document 01's refusals 7, 5 and 14, which the Rust hasn't.
 
 use super::{Answer, Call, Case, Record, before};
-use crate::window::{Words, refusal, unsound};
+use crate::window::{Window, Words, refusal, unsound};
 use vrf_bitio::BitReader;
 use vrf_net::error::NetError;
 use vrf_net::field::{
@@ -48,6 +48,13 @@ fn refused(error: &NetError) -> Words {
         NetError::UnresolvedFunctionCount => [15, 0, 0, 0],
         _ => unreachable!("no walk gives another"),
     }
+}
+
+/// A word that says no stream, in 15's place: after 7 and 5 it is 255 and the word.
+pub fn refused_word(n: u64, window: Window, word: u32) -> [u64; 8] {
+    let [number, a, b, c] = unsound(n, window).unwrap_or([255, u64::from(word), 0, 0]);
+    let [start, position, length] = window;
+    [number, a, b, c, start, position, length, 0]
 }
 
 fn rep_layout((count, outcome): Walk<RepLayoutRemainder>) -> (u64, Words) {

@@ -2,7 +2,7 @@
 // places, as big-endian words.
 
 use super::Call::*;
-use super::expected::expected;
+use super::expected::{expected, refused_word};
 use super::{Answer, CALLS, Call, Case, before, streams};
 use crate::line::Line;
 use crate::random::Random;
@@ -67,6 +67,36 @@ const APART: [Apart; 34] = [
     (RepLayout, &[0], [u64::MAX, 1, 0], 0, 1),
 ];
 
+/// The number of `list_records` by its word, which stands above the function count in the argument.
+const BY_WORD: u8 = 25;
+
+/// Words that say no stream, in sound windows and in others.
+const NO_STREAM: [(u32, &[u8], Window, u32, usize); 8] = [
+    (3, &[0, 0], [0, 0, 9], 1, 1),
+    (4, &[0x04, 0x00, 0x00, 0x00], [0, 0, 25], 0, 1),
+    (255, &[], [0, 0, 0], 2, 0),
+    (1 << 31, &[0xff, 0xff], [3, 5, 13], 7, 2),
+    (u32::MAX, &[0x00, 0x00, 0xff], [0, 24, 24], u32::MAX, 1),
+    (3, &[0], [0, 0, 9], 0, 1),
+    (u32::MAX, &[0], [9, 0, 1], 0, 2),
+    (5, &[0], [0, 9, 8], 0, 1),
+];
+
+fn refused((word, data, window, count, places): (u32, &[u8], Window, u32, usize)) -> String {
+    let [words @ .., written] = refused_word(data.len() as u64, window, word);
+    let untouched: Vec<_> = (0..places).map(before).collect();
+    let line = Line {
+        call: BY_WORD,
+        data,
+        window,
+        argument: u64::from(word) << 32 | u64::from(count),
+        before: &bytes(UNWRITTEN, &untouched),
+        words,
+        after: &bytes(written, &untouched),
+    };
+    line.text()
+}
+
 fn random_case(random: &mut Random, round: usize) -> Case {
     let call = CALLS[round % 3].0;
     let count = match (call, random.below(3)) {
@@ -110,8 +140,15 @@ fn record(case: &Case) -> String {
     line.text()
 }
 
-/// Prints so many records, always the same ones.
+/// Prints so many records, always the same ones, and then those of words that say no stream.
 pub fn print(wanted: usize) {
+    walks(wanted);
+    for case in NO_STREAM {
+        println!("{}", refused(case));
+    }
+}
+
+fn walks(wanted: usize) {
     let mut random = Random::new(SEED);
     let apart = APART.map(|(call, data, window, count, places)| Case::new(call, data, window, count, places));
     let drawn = (0..).map(|round| random_case(&mut random, round)).filter(|case| case.data.len() <= LONGEST_DATA);

@@ -87,11 +87,12 @@ pub struct PartialBunchResult {
     pub should_process: bool,
     /// The limit that refused the fragment.
     pub resource_limit: Option<PartialResourceLimit>,
-    /// The bits of displaced messages and, where it wasn't kept, of the fragment.
+    /// The bits of all that the call displaced or didn't keep, each once: a fragment that isn't kept can be the second displaced
+    /// message. None are counted of a message that a continuing final of no bits retires, where that came in with the error flag.
     pub discarded_bits: u64,
     /// What was wrong with the fragment.
     pub error_kind: Option<PartialSequenceKind>,
-    /// It replaced an unfinished message.
+    /// It replaced an unfinished message, or that kind came in with the header.
     pub overlapping_initial: bool,
     /// Messages that it displaced, at most two, the first displaced first.
     pub displaced: Vec<(PreservedPartial, PartialDiscardCause)>,
