@@ -1,7 +1,7 @@
 // Calls with plain parameters that go through a reader: a caller sees a slice and a window, and needs nothing of a reader.
 ghost use mathlib.Core.Path.{_≡_};
-ghost use Prim.Native.Nat.{_+_};
 ghost use lib.ListN.{length};
+ghost use Rattle.bitio_window.specs.Places.{packetBit};
 ghost use Rattle.bitio_window.specs.Reads.{readBit, readBits, readI32, readF32, readF64};
 ghost use Rattle.bitio_window.specs.Numbers.{readPacked, readSerialized};
 ghost use Rattle.bitio_window.specs.Windows.{newWindow, withBitLen, bitsRemaining, atEnd, subReader, skipBits, skipRemaining};
@@ -353,7 +353,7 @@ pub fn read_serialized_int(packet: &[u8], w: Window, max: u32) -> U32Read
 pub fn copy_bits_to(packet: &[u8], w: Window, target: &mut [u8], count: u64) -> DoneRead
     ensures { λ r. ⌜
         (ofDone r ≡ copyBits (length (now (target .entry))) count (now (packet .entry)) w)
-        × (now (target .exit) ≡ copyLeaves (ofDone r) (now (target .entry)) (now (packet .entry)) (w .start .0 + w .position .0) count)
+        × (now (target .exit) ≡ copyLeaves (ofDone r) (now (target .entry)) (now (packet .entry)) (packetBit w .0) count)
         ⌝ }
 {
     let mut reader = BitReader {

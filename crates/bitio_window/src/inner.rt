@@ -1,7 +1,7 @@
 // The reads of `bitio` of a given width, and its moves, for the project's own crates: what the tests before them show is required.
 ghost use mathlib.Core.Path.{_≡_};
 ghost use mathlib.Core.List.{List};
-ghost use Prim.Native.Nat.{ℕ, _+_, _-_, _≤_, _<_, _^_};
+ghost use Prim.Native.Nat.{ℕ, _-_, _≤_, _<_, _^_};
 ghost use lib.ListN.{length};
 ghost use Rattle.bitio_window.specs.Refusals.{placeOf, paper, tooFewBits};
 ghost use Rattle.bitio_window.specs.Parse.{advanced};
@@ -30,7 +30,7 @@ pub mod words;
 
 // The next bit's place in the packet.
 pub fn packet_bit(w: Window) -> PacketBit
-    requires { ⌜ w .start .0 + w .position .0 < 2 ^ 64 ⌝ }
+    requires { ⌜ packetBit w .0 < 2 ^ 64 ⌝ }
     ensures { λ r. ⌜ r ≡ packetBit w ⌝ }
 {
     let start = w.start;
@@ -95,7 +95,7 @@ pub fn skip(w: Window, count: u64) -> DoneRead
 
 // The next bits as a window of their own.
 pub fn sub(w: Window, count: u64) -> SubRead
-    requires { ⌜ (w .position .0 ≤ w .length) × (w .start .0 + w .position .0 < 2 ^ 64) ⌝ }
+    requires { ⌜ (w .position .0 ≤ w .length) × (packetBit w .0 < 2 ^ 64) ⌝ }
     ensures { λ r. ⌜ ((d : List ℕ) → ofSub r ≡ sub count d w) ⌝ }
 {
     let position = w.position;

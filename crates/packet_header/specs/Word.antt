@@ -5,12 +5,13 @@ use mathlib.Core.Path.{_≡_}
 use mathlib.Core.List.{List}
 use Rattle.bitio_window.specs.declared.Window.{Window}
 use Rattle.bitio_bits.specs.Bits.{bitsAt}
+use Rattle.bitio_window.specs.Places.{packetBit}
 use Rattle.bitio_window.specs.Parse.{got, Parse, advanced}
 use Rattle.packet_header.specs.declared.inner.quick.Rest.{Rest}
 
 -- what is left of a word whose low 57 bits were those at the window's place
 pub record Ahead (d : List ℕ) (w : Window) (q : Rest) : Type 0 where
-  pub field : (j n : ℕ) → q .used + j + n ≤ 57 → q .word / 2 ^ j % 2 ^ n ≡ bitsAt d (w .start .0 + (w .position .0 + (q .used + j))) n
+  pub field : (j n : ℕ) → q .used + j + n ≤ 57 → q .word / 2 ^ j % 2 ^ n ≡ bitsAt d (packetBit (advanced w (q .used + j)) .0) n
 
 -- the bits used are the word's, and the window's
 pub record Within (w : Window) (used : ℕ) : Type 0 where
