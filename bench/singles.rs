@@ -78,21 +78,32 @@ pub fn run(timing: &Timing) {
         || rust_reads(&data, operations, |reader, index| read_bits(reader, narrow[index])),
         || our_reads(&data, operations, |out, index| call!(gritwheel_read_bits, &data, out, narrow[index])),
     );
-    let Input { data, operations, .. } = inputs::packed(4096, inputs::realistic_length);
+    packed(timing, "read_int_packed, single calls", 4096);
+    serialized(timing, "read_serialized_int, single calls, mixed", 4096);
+    // So long that a processor can't learn the branches by heart.
+    packed(timing, "read_int_packed, single calls, 65536", 65536);
+    serialized(timing, "read_serialized_int, single calls, mixed, 65536", 65536);
+    copies(timing, 256);
+}
+
+fn packed(timing: &Timing, name: &str, reads: usize) {
+    let Input { data, operations, .. } = inputs::packed(reads, inputs::realistic_length);
     timing.compare(
-        "read_int_packed, single calls",
+        name,
         operations,
         || rust_reads(&data, operations, |reader, _| read_int_packed(reader).map(u64::from)),
         || our_reads(&data, operations, |out, _| call!(gritwheel_read_int_packed, &data, out)),
     );
-    let Input { data, narrow, operations, .. } = inputs::with_arguments(4096, inputs::mixed_maximum);
+}
+
+fn serialized(timing: &Timing, name: &str, reads: usize) {
+    let Input { data, narrow, operations, .. } = inputs::with_arguments(reads, inputs::mixed_maximum);
     timing.compare(
-        "read_serialized_int, single calls, mixed",
+        name,
         operations,
         || rust_reads(&data, operations, |reader, index| read_serialized_int(reader, narrow[index]).map(u64::from)),
         || our_reads(&data, operations, |out, index| call!(gritwheel_read_serialized_int, &data, out, narrow[index])),
     );
-    copies(timing, 256);
 }
 
 fn rust_copies(Input { data, wide, operations, .. }: &Input, target: &mut [u8]) -> u64 {

@@ -1,23 +1,16 @@
--- A serialized number: cut, whole without its top bit, cut before the top bit, or whole with it; and the same by its width.
+-- A serialized number: cut, whole without its top bit, cut before the top bit, or whole with it.
 use mathlib.Core.Path.{_≡_, refl, ap, sym, _∙_}
-use mathlib.Core.Bool.{Bool, true, false, cond}
 use mathlib.Core.List.{List}
-use Prim.Native.Nat.{ℕ, _+_, _*_, _-_, _%_, _^_, _≤_, _<_}
+use Prim.Native.Nat.{ℕ, _+_, _*_, _-_, _^_, _≤_, _<_}
 use native.Mathlib.Nat.{zero-mul, mul-comm, add-zero, add-assoc}
 use native.Mathlib.Omega.{arith}
-use lib.Dec.{ltb}
-use borrow.Author.Tests.{lt-ltb, le-ltb, ltb-true, ltb-false}
+use borrow.Author.Tests.{lt-ltb, le-ltb}
 use Rattle.bitio_window.specs.declared.Window.{Window}
 use Rattle.bitio_bits.specs.Bits.{bitsAt}
-use Rattle.bitio_bits.specs.Words.{Peeked}
-use Rattle.bitio_window.specs.Places.{packetBit}
 use Rattle.bitio_window.specs.Refusals.{tooFewBits, placeOf}
 use Rattle.bitio_window.specs.Parse.{got, refused, _>>=_, readIf, give, advanced}
 use Rattle.bitio_window.specs.Numbers.{log2, serialized}
-use Rattle.bitio_window.specs.Widths.{serializedWidth}
 use Rattle.bitio_bits.proofs.Numbers.{bits-append}
-use Rattle.bitio_bits.proofs.Loads.{peeked-low}
-use Rattle.bitio_window.proofs.Logs.{log2-most}
 use Rattle.bitio_window.proofs.Steps.{bits-short, bits-there, advanced-past}
 
 module _ (d : List ℕ) (w : Window) (m : ℕ) {n : ℕ} (en : log2 m ≡ n) where
@@ -48,29 +41,3 @@ module _ (d : List ℕ) (w : Window) (m : ℕ) {n : ℕ} (en : log2 m ≡ n) whe
           ∙ ap (λ (y : ℕ). v + 2 ^ n * bitsAt d y 1) (add-assoc (w .start .0) (w .position .0) n) ∙ ap (λ (y : ℕ). v + y) (mul-comm (2 ^ n) top)) in
           rw (en, bits-there d w n h, ev, lt-ltb (v + 2 ^ n) m f, bits-there d (advanced w n) 1 (omega arith), e)
           (ap (got (bitsAt d k (n + 1))) (advanced-past w n 1 (n + 1) refl))
-
--- both reads as one: as many bits as the lowest ones of a peeked word say
-module _ (d : List ℕ) (w : Window) (m : ℕ) {x : ℕ} (p : Peeked d (packetBit w .0) x) (h : log2 m ≤ w .length - w .position .0) where
-  value : bitsAt d (packetBit w .0) (log2 m) ≡ x % 2 ^ log2 m
-  value = sym (peeked-low d (packetBit w .0) (log2 m) p (omega (arith, log2-most m)))
-
-  pub cut-width : w .length - w .position .0 < serializedWidth m x → serialized m d w ≡ refused (tooFewBits (placeOf (advanced w (log2 m))) (w .length) 1) (advanced w (log2 m))
-  unfolding serializedWidth
-  cut-width = go (ltb (x % 2 ^ log2 m + 2 ^ log2 m) m) refl
-    where
-      go : (t : Bool) → ltb (x % 2 ^ log2 m + 2 ^ log2 m) m ≡ t → w .length - w .position .0 < log2 m + cond t 1 0
-          → serialized m d w ≡ refused (tooFewBits (placeOf (advanced w (log2 m))) (w .length) 1) (advanced w (log2 m))
-      go true e g = cut-top d w m refl value h (ltb-true (x % 2 ^ log2 m + 2 ^ log2 m) m e) g
-      go false e g = absurd (omega (arith, g, h))
-
-  pub by-width : serializedWidth m x ≤ w .length - w .position .0 → serialized m d w ≡ got (bitsAt d (packetBit w .0) (serializedWidth m x)) (advanced w (serializedWidth m x))
-  unfolding serializedWidth
-  by-width = go (ltb (x % 2 ^ log2 m + 2 ^ log2 m) m) refl
-    where
-      go : (t : Bool) → ltb (x % 2 ^ log2 m + 2 ^ log2 m) m ≡ t → log2 m + cond t 1 0 ≤ w .length - w .position .0
-          → serialized m d w ≡ got (bitsAt d (packetBit w .0) (log2 m + cond t 1 0)) (advanced w (log2 m + cond t 1 0))
-      go true e g = with-top d w m refl value h (ltb-true (x % 2 ^ log2 m + 2 ^ log2 m) m e) g
-      go false e g =
-          without-top d w m refl value h (ltb-false (x % 2 ^ log2 m + 2 ^ log2 m) m e)
-          ∙ ap (λ (v : ℕ). got v (advanced w (log2 m))) (sym value)
-          ∙ ap (λ (n : ℕ). got (bitsAt d (packetBit w .0) n) (advanced w n)) (sym (add-zero (log2 m)))

@@ -122,24 +122,32 @@ pub fn serialized_width(word: u64, max: u32) -> u64
     n + only_if(!whole, 1)
 }
 
-// Both reads are one field of a peeked word, of as many bits as its lowest ones say: no branch asks for the top bit.
+// Both reads are fields of one peeked word; with the second they are one field.
 pub fn serialized(bytes: &[u8], w: Window, max: u32) -> U32Read
     requires { ⌜ Sound (now bytes) w × (0 < max) ⌝ }
     ensures { λ r. ⌜ (ofU32 r ≡ serialized max (now (bytes .entry)) w) × Sound (now (bytes .entry)) (r .next) ⌝ }
 {
     let position = w.position;
     let left = w.length - position.0;
-    let n = floor_log2(max) as u64;
+    let width = floor_log2(max);
+    let n = width as u64;
     if left < n {
         return short_u32(w, n);
     }
     let word = words::peek(bytes, packet_bit(w));
-    let width = serialized_width(word, max);
-    if left < width {
+    let top = power(width);
+    let value = masks::low(n, word);
+    if is_whole(value, top, max) {
+        return U32Read {
+            answer: U32::Value(value as u32),
+            next: advance(w, n),
+        };
+    }
+    if left < n + 1 {
         return short_u32(advance(w, n), 1);
     }
     U32Read {
-        answer: U32::Value(masks::low(width, word) as u32),
-        next: advance(w, width),
+        answer: U32::Value(masks::low(n + 1, word) as u32),
+        next: advance(w, n + 1),
     }
 }

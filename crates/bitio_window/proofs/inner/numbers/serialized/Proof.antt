@@ -1,15 +1,14 @@
--- The three ways out are the laws of Serialized, by the width that the peeked word's low bits say.
+-- The four ways out are the laws of Serialized, at the low bits of the peeked word.
 use mathlib.Core.Path.{_≡_, sym, _∙_}
-use Prim.Native.Nat.{_-_, _≤_}
+use Prim.Native.Nat.{ℕ, _+_, _%_, _^_, _≤_}
 use native.Mathlib.Omega.{arith}
-use lib.Pow.{pow-mono}
 use borrow.Author.Needs.{needs}
-use Rattle.bitio_bits.specs.Words.{Peeked}
+use borrow.Author.Tests.{leb-true, leb-false}
+use Rattle.bitio_bits.specs.Bits.{bitsAt}
 use Rattle.bitio_bits.proofs.Loads.{peeked-low}
 use Rattle.bitio_window.specs.Places.{packetBit}
-use Rattle.bitio_window.specs.Numbers.{log2}
 use Rattle.bitio_window.proofs.Steps.{sound-past}
-use Rattle.bitio_window.proofs.Serialized.{cut, cut-width, by-width}
+use Rattle.bitio_window.proofs.Serialized.{cut, without-top, cut-top, with-top}
 use Rattle.bitio_window.proofs.inner.numbers.serialized.Statement.{statement}
 use Rattle.bitio_window.proofs.inner.numbers.serialized.Tie as tie
 
@@ -21,35 +20,60 @@ returns c =
       rw (c .short-u32 .ensures .1) (s .pre .0),
     )
 
-the-word : (c : tie.After-peek) → Peeked (c .before .before .before .before .before .before .before .before .args .bytes .now) (packetBit (c .before .before .before .before .before .before .before .before .args .w) .0) (c .peek .result)
-the-word c = rw (c .before .packet-bit .ensures) at (c .peek .ensures)
+-- the low bits of the peeked word are the next ones
+the-low : (c : tie.After-peek) (n : ℕ) → n ≤ 57 → bitsAt (c .before .before .before .before .before .before .before .before .args .bytes .now) (packetBit (c .before .before .before .before .before .before .before .before .args .w) .0) n ≡ c .peek .result % 2 ^ n
+the-low c n h = sym (peeked-low (c .before .before .before .before .before .before .before .before .args .bytes .now) (packetBit (c .before .before .before .before .before .before .before .before .args .w) .0) n (rw (c .before .packet-bit .ensures) at (c .peek .ensures)) h)
 
--- the first bits are there
-there : (c : tie.After-peek) → log2 (c .before .before .before .before .before .before .before .before .args .max) ≤ c .before .before .before .before .before .before .before .before .args .w .length - c .before .before .before .before .before .before .before .before .args .w .position .0
-there c = omega (arith, c .before .before .before .floor-log2 .ensures .0, c .before .before .if1 .left)
+the-value : (c : tie.After-low) → bitsAt (c .before .before .before .before .before .before .before .before .before .before .args .bytes .now) (packetBit (c .before .before .before .before .before .before .before .before .before .before .args .w) .0) (c .before .before .before .before .before .floor-log2 .result) ≡ c .low .result
+the-value c = the-low (c .before .before) (c .before .before .before .before .before .floor-log2 .result) (omega (arith, c .before .before .before .before .before .floor-log2 .ensures .1)) ∙ sym (c .low .ensures .0)
+
+is-whole-requires : tie.Need-is-whole-requires
+is-whole-requires c κs =
+    (rw (sym (c .before .power .ensures .0)) at (c .low .ensures .2), rw (sym (c .before .power .ensures .0)) at (c .before .before .before .before .before .floor-log2 .ensures .2))
+
+cast-value : tie.Need-cast-t14
+cast-value c = omega (arith, c .before .before .low .ensures .2, c .before .before .before .before .before .before .before .floor-log2 .ensures .2)
 
 returns-2 : tie.Need-returns-2
 returns-2 c =
-    let s = c .before .before .before .before .before .before .before .before .before .before .before .before in
+    let s = c .before .before .before .before .before .before .before .before .before .before .before .before .before in
+    let n = c .before .before .before .before .before .before .before .before .floor-log2 in
+    let p = c .before .before .before .before .power in
     let d = s .args .bytes .now in
-    let e = rw (c .before .before .before .before .before .before .before .floor-log2 .ensures .0) at (c .before .advance .ensures) in (
-      rw e at (c .short-u322 .ensures .0)
-          ∙ sym (cut-width d (s .args .w) (s .args .max) (the-word (c .before .before .before .before)) (there (c .before .before .before .before)) (rw (c .before .before .before .serialized-width .ensures .0) at (c .before .before .if2 .taken))),
-      rw (c .short-u322 .ensures .1, e) (sound-past d (s .args .w) (log2 (s .args .max)) (s .pre .0) (there (c .before .before .before .before))),
+    let f = leb-true (s .args .max) (c .before .before .before .low .result + p .result) (sym (c .before .before .is-whole .ensures) ∙ c .before .if2 .taken) in
+    rw (c .advance .ensures) (
+      sym (without-top d (s .args .w) (s .args .max) (sym (n .ensures .0)) (the-value (c .before .before .before)) (c .before .before .before .before .before .before .before .if1 .left) (omega (arith, p .ensures .0, f))),
+      sound-past d (s .args .w) (n .result) (s .pre .0) (c .before .before .before .before .before .before .before .if1 .left),
     )
-
-cast-value : tie.Need-cast-t9
-cast-value c = omega (arith, c .low .ensures .2, pow-mono {i = c .before .before .serialized-width .result} {j = 32} (c .before .before .serialized-width .ensures .1))
 
 returns-3 : tie.Need-returns-3
 returns-3 c =
-    let s = c .before .before .before .before .before .before .before .before .before .before .before .before in
+    let s = c .before .before .before .before .before .before .before .before .before .before .before .before .before .before .before in
+    let n = c .before .before .before .before .before .before .before .before .before .before .floor-log2 in
+    let p = c .before .before .before .before .before .before .power in
     let d = s .args .bytes .now in
-    let width = c .before .before .before .serialized-width in
-    let bits = c .before .low .ensures .0 ∙ peeked-low d (packetBit (s .args .w) .0) (width .result) (the-word (c .before .before .before .before)) (omega (arith, width .ensures .1)) in
-    rw (c .advance2 .ensures, bits) (
-      rw (width .ensures .0) (sym (by-width d (s .args .w) (s .args .max) (the-word (c .before .before .before .before)) (there (c .before .before .before .before)) (rw (width .ensures .0) at (c .before .before .if2 .left)))),
-      sound-past d (s .args .w) (width .result) (s .pre .0) (c .before .before .if2 .left),
+    let e = c .before .advance2 .ensures in
+    let h = c .before .before .before .before .before .before .before .before .before .if1 .left in
+    let f = leb-false (s .args .max) (c .before .before .before .before .before .low .result + p .result) (sym (c .before .before .before .before .is-whole .ensures) ∙ c .before .before .before .if2 .left) in (
+      rw e at (c .short-u322 .ensures .0)
+          ∙ sym (cut-top d (s .args .w) (s .args .max) (sym (n .ensures .0)) (the-value (c .before .before .before .before .before)) h (omega (arith, p .ensures .0, f)) (c .before .before .if3 .taken)),
+      rw (c .short-u322 .ensures .1, e) (sound-past d (s .args .w) (n .result) (s .pre .0) h),
+    )
+
+cast-whole : tie.Need-cast-t20
+cast-whole c = omega (arith, c .low2 .ensures .2, c .before .before .before .before .before .before .before .before .before .floor-log2 .ensures .3)
+
+returns-4 : tie.Need-returns-4
+returns-4 c =
+    let s = c .before .before .before .before .before .before .before .before .before .before .before .before .before .before .before in
+    let n = c .before .before .before .before .before .before .before .before .before .before .floor-log2 in
+    let p = c .before .before .before .before .before .before .power in
+    let d = s .args .bytes .now in
+    let f = leb-false (s .args .max) (c .before .before .before .before .before .low .result + p .result) (sym (c .before .before .before .before .is-whole .ensures) ∙ c .before .before .before .if2 .left) in
+    let whole = the-low (c .before .before .before .before .before .before .before) (n .result + 1) (omega (arith, n .ensures .1)) ∙ sym (c .before .low2 .ensures .0) in
+    rw (c .advance3 .ensures, sym whole) (
+      sym (with-top d (s .args .w) (s .args .max) (sym (n .ensures .0)) (the-value (c .before .before .before .before .before)) (c .before .before .before .before .before .before .before .before .before .if1 .left) (omega (arith, p .ensures .0, f)) (c .before .before .if3 .left)),
+      sound-past d (s .args .w) (n .result + 1) (s .pre .0) (c .before .before .if3 .left),
     )
 
 pub serialized-spec : {M : Type 1} → statement M
@@ -65,9 +89,17 @@ serialized-spec =
     (λ c κs. search needs)
     (λ c κs. search needs)
     (λ c κs. search needs)
-    (λ c κs. search needs)
-    returns-2
-    (λ c κs. search needs)
+    is-whole-requires
     cast-value
     (λ c κs. search needs)
-    returns-3)
+    returns-2
+    (λ c. search needs)
+    (λ c κs. search needs)
+    (λ c κs. search needs)
+    returns-3
+    (λ c. search needs)
+    (λ c κs. search needs)
+    cast-whole
+    (λ c. search needs)
+    (λ c κs. search needs)
+    returns-4)
