@@ -122,7 +122,7 @@ pub fn serialized_width(word: u64, max: u32) -> u64
     n + only_if(!whole, 1)
 }
 
-// Both reads are fields of one peeked word; with the second they are one field.
+// Both reads are of one peeked word: its low bits, and the bit above them.
 pub fn serialized(bytes: &[u8], w: Window, max: u32) -> U32Read
     requires { ⌜ Sound (now bytes) w × (0 < max) ⌝ }
     ensures { λ r. ⌜ (ofU32 r ≡ serialized max (now (bytes .entry)) w) × Sound (now (bytes .entry)) (r .next) ⌝ }
@@ -147,7 +147,7 @@ pub fn serialized(bytes: &[u8], w: Window, max: u32) -> U32Read
         return short_u32(advance(w, n), 1);
     }
     U32Read {
-        answer: U32::Value(masks::low(n + 1, word) as u32),
+        answer: U32::Value((value + only_if((word >> n) % 2 == 1, top)) as u32),
         next: advance(w, n + 1),
     }
 }

@@ -1,10 +1,15 @@
 -- The four ways out are the laws of Serialized, at the low bits of the peeked word.
-use mathlib.Core.Path.{_≡_, sym, _∙_}
-use Prim.Native.Nat.{ℕ, _+_, _%_, _^_, _≤_}
+use mathlib.Core.Path.{_≡_, ap, ap₂, sym, _∙_}
+use mathlib.Core.Bool.{cond}
+use Prim.Native.Nat.{ℕ, zero, suc, _+_, _*_, _/_, _%_, _^_, _≤_, _<_}
+use native.Mathlib.Nat.{mul-zero, mul-one, mod-lt, pow-succ'}
+use native.Mathlib.Numerals.{add-one}
 use native.Mathlib.Omega.{arith}
+use lib.Dec.{eqb}
 use borrow.Author.Needs.{needs}
 use borrow.Author.Tests.{leb-true, leb-false}
 use Rattle.bitio_bits.specs.Bits.{bitsAt}
+use Rattle.bitio_bits.proofs.Numbers.{bits-append}
 use Rattle.bitio_bits.proofs.Loads.{peeked-low}
 use Rattle.bitio_window.specs.Places.{packetBit}
 use Rattle.bitio_window.proofs.Steps.{sound-past}
@@ -60,8 +65,28 @@ returns-3 c =
       rw (c .short-u322 .ensures .1, e) (sound-past d (s .args .w) (n .result) (s .pre .0) h),
     )
 
-cast-whole : tie.Need-cast-t20
-cast-whole c = omega (arith, c .low2 .ensures .2, c .before .before .before .before .before .before .before .before .before .floor-log2 .ensures .3)
+-- the bit above them counts 2^n, or nothing
+counts : (b t : ℕ) → b < 2 → cond (eqb b 1) t 0 ≡ t * b
+counts zero t h = sym (mul-zero t)
+counts (suc zero) t h = sym (mul-one t)
+counts (suc (suc b)) t h = absurd (omega (arith, h))
+
+twice : (n : ℕ) → 2 ^ (n + 1) ≡ 2 * 2 ^ n
+twice n = rw add-one (pow-succ' 2 n)
+
+the-whole : (c : tie.After-only-if) → bitsAt (c .before .before .before .before .before .before .before .before .before .before .before .before .before .before .args .bytes .now) (packetBit (c .before .before .before .before .before .before .before .before .before .before .before .before .before .before .args .w) .0) (c .before .before .before .before .before .before .before .before .before .floor-log2 .result + 1) ≡ c .before .before .before .before .low .result + c .only-if .result
+the-whole c =
+    let d = c .before .before .before .before .before .before .before .before .before .before .before .before .before .before .args .bytes .now in
+    let k : ℕ = packetBit (c .before .before .before .before .before .before .before .before .before .before .before .before .before .before .args .w) .0 in
+    let n = c .before .before .before .before .before .before .before .before .before .floor-log2 in
+    let x : ℕ = c .before .before .before .before .before .before .peek .result in
+    let word = rw (c .before .before .before .before .before .before .before .packet-bit .ensures) at (c .before .before .before .before .before .before .peek .ensures) in
+    let top = counts (x / 2 ^ n .result % 2) (c .before .before .before .before .before .power .result) (mod-lt (x / 2 ^ n .result) (omega arith)) in
+    bits-append d k (n .result) 1
+    ∙ ap₂ (λ (v b : ℕ). v + b) (the-value (c .before .before .before .before)) (ap (λ (b : ℕ). 2 ^ n .result * b) (sym (word .field (n .result) 1 (omega (arith, n .ensures .1)))) ∙ sym (c .only-if .ensures .0 ∙ top ∙ ap (λ (t : ℕ). t * (x / 2 ^ n .result % 2)) (c .before .before .before .before .before .power .ensures .0)))
+
+small : (c : tie.After-only-if) → c .before .before .before .before .low .result + c .only-if .result < 2 ^ 32
+small c = omega (arith, c .before .before .before .before .low .ensures .2, c .only-if .ensures .1, c .before .before .before .before .before .power .ensures .0, twice (c .before .before .before .before .before .before .before .before .before .floor-log2 .result), c .before .before .before .before .before .before .before .before .before .floor-log2 .ensures .3)
 
 returns-4 : tie.Need-returns-4
 returns-4 c =
@@ -70,8 +95,7 @@ returns-4 c =
     let p = c .before .before .before .before .before .before .power in
     let d = s .args .bytes .now in
     let f = leb-false (s .args .max) (c .before .before .before .before .before .low .result + p .result) (sym (c .before .before .before .before .is-whole .ensures) ∙ c .before .before .before .if2 .left) in
-    let whole = the-low (c .before .before .before .before .before .before .before) (n .result + 1) (omega (arith, n .ensures .1)) ∙ sym (c .before .low2 .ensures .0) in
-    rw (c .advance3 .ensures, sym whole) (
+    rw (c .advance3 .ensures, sym (the-whole (c .before))) (
       sym (with-top d (s .args .w) (s .args .max) (sym (n .ensures .0)) (the-value (c .before .before .before .before .before)) (c .before .before .before .before .before .before .before .before .before .if1 .left) (omega (arith, p .ensures .0, f)) (c .before .before .if3 .left)),
       sound-past d (s .args .w) (n .result + 1) (s .pre .0) (c .before .before .if3 .left),
     )
@@ -99,7 +123,8 @@ serialized-spec =
     returns-3
     (λ c. search needs)
     (λ c κs. search needs)
-    cast-whole
+    (λ c. omega (arith, small c))
+    (λ c. omega (arith, small c))
     (λ c. search needs)
     (λ c κs. search needs)
     returns-4)
