@@ -154,3 +154,12 @@ pub fn low(n: u64, word: u64) -> u64
 {
     word & mask(n)
 }
+
+// The same without the table, for what is written: `low` is a call where a library has several of them, and the writer, which has
+// three and no other work beside them, took up to half as long again.
+pub fn low_by_shift(n: u64, word: u64) -> u64
+    requires { ⌜ n < 64 ⌝ }
+    ensures { λ r. ⌜ (r ≡ word % 2 ^ n) × (r ≤ word) × (r < 2 ^ n) ⌝ }
+{
+    word & ((1 << n) - 1)
+}

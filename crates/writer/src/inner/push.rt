@@ -5,7 +5,7 @@ ghost use lib.ListN.{length};
 ghost use Rattle.types.specs.Types.{longestPacketBits};
 ghost use Rattle.writer_spelling.specs.Bits.{bitsFrom, putBits};
 ghost use Rattle.writer_spelling.specs.Words.{spelt, Whole};
-use bitio_bits::inner::masks::low;
+use bitio_bits::inner::masks::low_by_shift;
 use bitio_window::PacketBit;
 use bitio_window::inner::copy;
 use bitio_window::inner::words;
@@ -18,7 +18,7 @@ pub fn push(packet: &mut [u8], at: u64, bits: Bits)
 {
     let place = (at / 8) as usize;
     let off = at % 8;
-    let kept = low(off, packet[place] as u64);
+    let kept = low_by_shift(off, packet[place] as u64);
     copy::store(
         packet,
         place,
@@ -48,7 +48,7 @@ fn step(packet: &mut [u8], at: u64, payload: &[u8], from: u64, left: u64) -> u64
             return 64;
         }
         let filling = 64 - off;
-        let word = low(filling, eight);
+        let word = low_by_shift(filling, eight);
         push(
             packet,
             at,
@@ -60,7 +60,7 @@ fn step(packet: &mut [u8], at: u64, payload: &[u8], from: u64, left: u64) -> u64
         return filling;
     }
     let count = least(left, 56 - off);
-    let word = low(count, words::peek(payload, PacketBit(from)));
+    let word = low_by_shift(count, words::peek(payload, PacketBit(from)));
     push(packet, at, Bits { word, count });
     count
 }

@@ -7,15 +7,15 @@ use Rattle.writer.proofs.Pushing.{word-fits, pushed}
 use Rattle.writer.proofs.inner.push.push.Statement.{statement}
 use Rattle.writer.proofs.inner.push.push.Tie as tie
 
-cast-low : tie.Need-cast-low
-cast-low c = omega (arith, c .slice-known2 .given (c .before .before .args .at / 8))
+cast-low-by-shift : tie.Need-cast-low-by-shift
+cast-low-by-shift c = omega (arith, c .slice-known2 .given (c .before .before .args .at / 8))
 
 add-store : tie.Need-add-store
 add-store c =
     let s = c .before .before .before .before .before in
     let a = s .args in
     record {
-      fits = word-fits (a .packet .now) (a .at) (a .bits .count) (a .bits .word) (s .pre .0 .within) (s .pre .2) (c .before .before .low .ensures .0);
+      fits = word-fits (a .packet .now) (a .at) (a .bits .count) (a .bits .word) (s .pre .0 .within) (s .pre .2) (c .before .before .low-by-shift .ensures .0);
     }
 
 returns : tie.Need-returns
@@ -23,7 +23,7 @@ returns c =
     let s = c .before .before .before .before .before .before .before .before .before in
     let a = s .args in
     c .before .before .store .ensures
-    ∙ pushed (a .packet .now) (a .at) (a .bits .count) (a .bits .word) (s .pre .0 .within) (s .pre .2) (c .before .before .before .before .before .before .low .ensures .0)
+    ∙ pushed (a .packet .now) (a .at) (a .bits .count) (a .bits .word) (s .pre .0 .within) (s .pre .2) (c .before .before .before .before .before .before .low-by-shift .ensures .0)
     (s .pre .1) (s .pre .3)
 
 pub push-spec : {M : Type 1} → statement M
@@ -31,7 +31,7 @@ push-spec =
     tie.close
     (tie.spec
     (λ c. search needs)
-    cast-low
+    cast-low-by-shift
     (λ c κs. search needs)
     (λ c. search needs)
     add-store

@@ -23,7 +23,7 @@ returns-2 c =
       c .before .before .push .ensures
           ∙ ap (putBits (a .packet .now) (a .at))
           (word-bits (a .payload .now) (a .from) (64 - a .at % 8) (c .before .before .before .before .before .before .word-at .ensures) (omega arith)
-          (c .before .before .before .before .low .ensures .0)),
+          (c .before .before .before .before .low-by-shift .ensures .0)),
     )
 
 returns-3 : tie.Need-returns-3
@@ -34,7 +34,7 @@ returns-3 c =
       c .before .before .push2 .ensures
           ∙ ap (putBits (a .packet .now) (a .at))
           (peeked-bits (a .payload .now) (a .from) (n .result) (c .before .before .before .before .before .peek .ensures) (omega arith)
-          (c .before .before .before .before .low2 .ensures .0)),
+          (c .before .before .before .before .low-by-shift2 .ensures .0)),
     )
 
 pub step-spec : {M : Type 1} → statement M
