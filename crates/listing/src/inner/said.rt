@@ -79,8 +79,12 @@ pub fn outcome_line(out: &mut [u8], outcome: Outcome) -> usize
     }
 }
 
-pub fn say(outcome: Outcome) {
+// How much of the line is out. What is not can't be told anywhere: then the launcher finds no line.
+pub fn say(outcome: Outcome) -> usize
+    ensures { λ r. ⌜ r ≤ length (outcomeLine outcome) ⌝ }
+{
     let mut line = [0u8; 96];
     let end = outcome_line(&mut line, outcome);
-    output::flush(STDERR_FILENO, &line, end);
+    let flushed = output::flush(STDERR_FILENO, &line, end);
+    flushed.bytes
 }
