@@ -11,7 +11,7 @@ from logs import Packet, any_log, log  # noqa: E402
 
 ALWAYS = 25
 CAUSES = ("continuation without initial", "its channel closed", "its channel opened anew", "mismatched continuation",
-          "non-byte-aligned non-final fragment", "overlapping initial", "too many channels", "too many messages held")
+          "non-byte-aligned non-final fragment", "overlapping initial", "the channel limit", "too many messages held")
 KINDS = {"message", "message, joined", "unfinished"} | {f"discarded: {cause}" for cause in CAUSES}
 CHANNELS = ([3], [0, 1], [0, 1, 2, 3, 127, 128, 16384, 2**32 - 1], list(range(200)))
 

@@ -47,7 +47,7 @@ use Rattle.bitio_reader.specs.Readers.{windowOf}
 use Rattle.bitio_reader.proofs.Answers.{Answered, answerVal, answerTy, got, gotLaws, gotPlain, gotTy, madeVal, made-is}
 use Rattle.bitio_reader.proofs.Calling.{told-fact, routine-meets}
 use Rattle.bitio_reader.proofs.Calls as calls
-use Rattle.bitio_reader.proofs.Handing.{Handed, handedVal}
+use Rattle.bitio_reader.proofs.Handing.{Handed}
 use Rattle.bitio_reader.proofs.Opens as opener
 use Rattle.bitio_reader.proofs.Places.{at, Type′, Laws′, Row, mach, Packet, packetVal, window-is}
 use Rattle.bitio_reader.proofs.Opening.Laws as O′

@@ -1,5 +1,5 @@
 -- What each read of a given width means, by document 01's "Bits and numbers" and its rules of refusing.
-use Prim.Native.Nat.{ℕ, _+_, _*_, _-_}
+use Prim.Native.Nat.{ℕ, _*_, _-_}
 use mathlib.Core.Bool.{Bool}
 use lib.ListN.{length}
 use lib.Dec.{ltb, eqb}

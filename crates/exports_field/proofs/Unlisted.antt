@@ -13,12 +13,12 @@ use Rattle.bitio_window.specs.Parse.{Answer, got, refused, andThen, _>>_, refus
 use Rattle.bitio_window.specs.Reads.{largestData, sound, dataFits, windowFits, cursorFits}
 use Rattle.field_walking.specs.declared.FieldRecord.{FieldRecord}
 use Rattle.field_walking.specs.declared.Walk.{Walk}
-use Rattle.field_walking.specs.Walks.{Walked, Stop, stopped}
+use Rattle.field_walking.specs.Walks.{Walked, stopped}
 use Rattle.field_walking.specs.Answers.{ofWalk}
 use Rattle.field.specs.Walks.{from, parseClassNetCache}
 use Rattle.field_records.specs.declared.Stream.{Stream}
 use Rattle.field_records.specs.Records.{filled}
-use Rattle.field_records.specs.Walks.{ListedRecords, listedRecords, walkedInto, ofLists}
+use Rattle.field_records.specs.Walks.{listedRecords, walkedInto, ofLists}
 use Rattle.exports_words.specs.Words.{refusalWords, words}
 use Rattle.exports_words.specs.Walks.{stopWords, walkWords}
 use Rattle.exports_field.specs.Streams.{noStream, unlisted, listedBy, streamOf, countOf, toldOf}

@@ -1,7 +1,7 @@
 -- One record, by what its reads gave.
 use mathlib.Core.Path.{_≡_, sym, ap, _∙_}
 use mathlib.Core.List.{List}
-use Prim.Native.Nat.{ℕ, _+_, _-_, _≤_, _<_, max}
+use Prim.Native.Nat.{ℕ, _-_, _≤_, _<_, max}
 use borrow.Author.Tests.{lt-ltb, le-ltb, le-leb, lt-leb, eq-eqb, ne-eqb}
 use Rattle.bitio_window.specs.Places.{packetBit}
 use Rattle.bitio_window.specs.declared.Window.{Window}

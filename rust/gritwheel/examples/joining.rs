@@ -35,7 +35,7 @@ impl Joining<'_> {
         }
         if header.has_channel_limit_error {
             // The reader has no sequence for it, so whether a fragment fits can't be said.
-            self.told("refused", channel, bits, &bytes, "too many channels");
+            self.told("refused", channel, bits, &bytes, "the channel limit");
         } else if partial {
             self.fragment(bunch, &bytes)?;
         } else {

@@ -114,7 +114,7 @@ impl Chain {
         }
         if header.has_channel_limit_error {
             // The reader has no sequence for it, so whether a fragment fits can't be said.
-            self.line(channel, Fate::Discarded("too many channels".into()), (id, id), bits, bytes);
+            self.line(channel, Fate::Discarded("the channel limit".into()), (id, id), bits, bytes);
         } else if header.b_partial {
             self.fragment(bunch, bytes)?;
         } else {

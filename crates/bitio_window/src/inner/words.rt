@@ -2,7 +2,7 @@
 ghost use mathlib.Core.Path.{_≡_};
 ghost use Prim.Native.Nat.{_+_, _*_, _-_, _≤_, _<_, _^_};
 ghost use lib.Dec.{eqb};
-ghost use lib.ListN.{length, getD};
+ghost use lib.ListN.{length};
 ghost use Rattle.bitio_bits.specs.Bits.{bitsAt};
 ghost use Rattle.bitio_bits.specs.Words.{eightAt, Peeked};
 use crate::PacketBit;

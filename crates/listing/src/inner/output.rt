@@ -1,5 +1,4 @@
 // Lines gathered in a buffer, and written out where the next packet's might find no room.
-ghost use mathlib.Core.Path.{_≡_};
 ghost use Prim.Native.Nat.{_+_, _≤_};
 ghost use lib.ListN.{length};
 ghost use Rattle.log_telling.specs.Turns.{packetRoom, PacketRoom};

@@ -1,5 +1,4 @@
 // What is said of how a listing ended: V or X on standard output, and one line on standard error.
-ghost use mathlib.Core.Path.{_≡_};
 ghost use mathlib.Core.List.{[], _∷_, _++_};
 ghost use Prim.Native.Nat.{_+_, _≤_};
 ghost use lib.ListN.{length};

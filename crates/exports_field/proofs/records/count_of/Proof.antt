@@ -1,6 +1,5 @@
 -- The test and its two cases.
 use borrow.Author.Tests.{eq-eqb, ne-eqb}
-use borrow.Author.Needs.{needs}
 use Rattle.exports_field.proofs.records.count_of.Statement.{statement}
 use Rattle.exports_field.proofs.records.count_of.Tie as tie
 
