@@ -60,7 +60,7 @@ fn with_taken(sum: u64, answer: Handed) -> u64
 // The sum, how many messages are live, and their bits.
 pub type SumWords = [u64; 3];
 
-#[derive(Drop)]
+#[derive(Clone, Copy)]
 pub struct Turned {
     pub sum: u64,
     pub left: Settled,

@@ -1,2 +1,3 @@
 // Chains of fragments in a row, for bench/ to time.
+#![tactic(auto)]
 pub mod inner;

@@ -42,7 +42,7 @@ fn front(packet: &[u8], bit_len: u64) -> DoneRead
 }
 
 // What cutting a window out answers: the answer, the window that was cut out, and where the reader then stands.
-#[derive(Drop)]
+#[derive(Clone, Copy)]
 pub struct Cut {
     pub answer: Done,
     pub child: Window,

@@ -1,4 +1,6 @@
 // A window over a byte slice, and the words that reads answer in. Follows vrf-bitio/src/lib.rs.
+#![tactic(auto)]
+
 ghost use Rattle.std.specs.Prelude.{◌≡◌};
 ghost use Rattle.bitio_window.specs.Refusals.{place_of};
 
@@ -9,16 +11,16 @@ pub const MAX_DATA_BYTES: usize = 67108864;
 
 // A bit's place counted from the window's first bit: the Rust's `pos`.
 #[repr(C)]
-#[derive(Drop)]
+#[derive(Clone, Copy)]
 pub struct WindowBit(pub u64);
 
 // A bit's place counted from the packet's first bit: the Rust's `start_bit + pos`.
 #[repr(C)]
-#[derive(Drop)]
+#[derive(Clone, Copy)]
 pub struct PacketBit(pub u64);
 
 // The Rust's `BitReader` without its slice, which stands beside it in every call.
-#[derive(Drop)]
+#[derive(Clone, Copy)]
 pub struct Window {
     pub start: PacketBit,
     pub position: WindowBit,
@@ -26,7 +28,7 @@ pub struct Window {
 }
 
 // The position that a refusal carries. It is made by `place_of` alone.
-#[derive(Drop)]
+#[derive(Clone, Copy)]
 pub struct Place {
     pub at: WindowBit,
 }
@@ -39,7 +41,7 @@ pub fn place_of(w: Window) -> Place
 }
 
 // Why a call refused, each case with document 01's number.
-#[derive(Drop)]
+#[derive(Clone, Copy)]
 pub enum BitError {
     // 1
     Eof {
@@ -75,124 +77,124 @@ pub enum BitError {
 }
 
 // What a call answers, and where the reader then stands: the Rust's result, and its `&mut self`.
-#[derive(Drop)]
+#[derive(Clone, Copy)]
 pub enum Done {
     Value,
     Refused(BitError),
 }
 
-#[derive(Drop)]
+#[derive(Clone, Copy)]
 pub struct DoneRead {
     pub answer: Done,
     pub next: Window,
 }
 
-#[derive(Drop)]
+#[derive(Clone, Copy)]
 pub enum Bit {
     Value(bool),
     Refused(BitError),
 }
 
-#[derive(Drop)]
+#[derive(Clone, Copy)]
 pub struct BitRead {
     pub answer: Bit,
     pub next: Window,
 }
 
-#[derive(Drop)]
+#[derive(Clone, Copy)]
 pub enum U8 {
     Value(u8),
     Refused(BitError),
 }
 
-#[derive(Drop)]
+#[derive(Clone, Copy)]
 pub struct U8Read {
     pub answer: U8,
     pub next: Window,
 }
 
-#[derive(Drop)]
+#[derive(Clone, Copy)]
 pub enum U16 {
     Value(u16),
     Refused(BitError),
 }
 
-#[derive(Drop)]
+#[derive(Clone, Copy)]
 pub struct U16Read {
     pub answer: U16,
     pub next: Window,
 }
 
-#[derive(Drop)]
+#[derive(Clone, Copy)]
 pub enum U32 {
     Value(u32),
     Refused(BitError),
 }
 
-#[derive(Drop)]
+#[derive(Clone, Copy)]
 pub struct U32Read {
     pub answer: U32,
     pub next: Window,
 }
 
-#[derive(Drop)]
+#[derive(Clone, Copy)]
 pub enum I32 {
     Value(i32),
     Refused(BitError),
 }
 
-#[derive(Drop)]
+#[derive(Clone, Copy)]
 pub struct I32Read {
     pub answer: I32,
     pub next: Window,
 }
 
-#[derive(Drop)]
+#[derive(Clone, Copy)]
 pub enum U64 {
     Value(u64),
     Refused(BitError),
 }
 
-#[derive(Drop)]
+#[derive(Clone, Copy)]
 pub struct U64Read {
     pub answer: U64,
     pub next: Window,
 }
 
 // A pattern that stands for no number is handed out as its bits: a float can't carry them.
-#[derive(Drop)]
+#[derive(Clone, Copy)]
 pub enum F32 {
     Value(f32),
     NotANumber(u32),
     Refused(BitError),
 }
 
-#[derive(Drop)]
+#[derive(Clone, Copy)]
 pub struct F32Read {
     pub answer: F32,
     pub next: Window,
 }
 
-#[derive(Drop)]
+#[derive(Clone, Copy)]
 pub enum F64 {
     Value(f64),
     NotANumber(u64),
     Refused(BitError),
 }
 
-#[derive(Drop)]
+#[derive(Clone, Copy)]
 pub struct F64Read {
     pub answer: F64,
     pub next: Window,
 }
 
-#[derive(Drop)]
+#[derive(Clone, Copy)]
 pub enum Opened {
     Value(Window),
     Refused(BitError),
 }
 
-#[derive(Drop)]
+#[derive(Clone, Copy)]
 pub struct SubRead {
     pub answer: Opened,
     pub next: Window,

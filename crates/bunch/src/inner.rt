@@ -12,7 +12,7 @@ use crate::Listed;
 use bunch_held::{Accumulator, inner};
 use bunch_places::{Place, inner as bytes};
 
-#[derive(Drop)]
+#[derive(Clone, Copy)]
 pub struct Wanted {
     pub messages: usize,
     pub bytes: usize,

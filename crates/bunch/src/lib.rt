@@ -1,5 +1,6 @@
 // The accumulator's public calls: vrf-net/src/bunch.rs's `PartialBunchAccumulator` over lent memory. `opening` opens one and tells its
 // counts, `calls` has those on a channel, `drains` the one on all.
+#![tactic(auto)]
 use bunch_held::{Accumulator, BunchError};
 
 pub mod calls;
@@ -8,7 +9,7 @@ pub mod inner;
 pub mod opening;
 
 // Refused is 9.
-#[derive(Drop)]
+#[derive(Clone, Copy)]
 pub enum Opened {
     Value(Accumulator),
     Refused,
@@ -18,13 +19,13 @@ pub enum Opened {
 pub type Listed = [u64; 22];
 
 // How many messages stand in the list.
-#[derive(Drop)]
+#[derive(Clone, Copy)]
 pub enum Drain {
     Messages(usize),
     Refused(BunchError),
 }
 
-#[derive(Drop)]
+#[derive(Clone, Copy)]
 pub struct Emptied {
     pub answer: Drain,
     pub accumulator: Accumulator,

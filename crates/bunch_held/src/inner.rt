@@ -12,7 +12,7 @@ use tables::inner;
 use types::{MAX_ACTIVE_PARTIAL_BUNCHES, MAX_BUFFERED_PARTIAL_BITS};
 
 // With how many bytes of the arena are used.
-#[derive(Drop)]
+#[derive(Clone, Copy)]
 pub enum Checked {
     Sound { used: usize },
     Unsound,

@@ -1,8 +1,9 @@
 // The accumulator's state in lent memory, and the test of it: vrf-net/src/bunch.rs's `PartialBunchAccumulator` without its calls.
+#![tactic(auto)]
 pub mod inner;
 
 // The limits, and what is held now: the Rust's fields without its map, which is lent.
-#[derive(Drop)]
+#[derive(Clone, Copy)]
 pub struct Accumulator {
     pub max_active: usize,
     pub max_buffered_bits: u64,
@@ -11,7 +12,7 @@ pub struct Accumulator {
 }
 
 // Why a call refused, each case with document 01's number.
-#[derive(Drop)]
+#[derive(Clone, Copy)]
 pub enum BunchError {
     // 10
     Unsound,

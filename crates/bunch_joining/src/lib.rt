@@ -1,5 +1,6 @@
 // A fragment is added and a message handed out, on memory that was tested: a program that tested it once can go on with what each
 // call leaves.
+#![tactic(auto)]
 use bunch_held::{Accumulator, BunchError};
 use bunch_judging::{Displacement, PartialBunchResult};
 use types::RawBunchHeader;
@@ -7,7 +8,7 @@ use types::RawBunchHeader;
 pub mod inner;
 
 // What comes of a fragment; the displaced messages' bytes are in the output, first displaced first.
-#[derive(Drop)]
+#[derive(Clone, Copy)]
 pub enum Judged {
     Result {
         result: PartialBunchResult,
@@ -17,14 +18,14 @@ pub enum Judged {
 }
 
 // Beside what is then held: the answer of a call that tests the memory.
-#[derive(Drop)]
+#[derive(Clone, Copy)]
 pub struct Added {
     pub answer: Judged,
     pub accumulator: Accumulator,
 }
 
 // What taking or retiring hands out; the message's bytes are in the output.
-#[derive(Drop)]
+#[derive(Clone, Copy)]
 pub enum Handed {
     Message {
         header: RawBunchHeader,
@@ -35,7 +36,7 @@ pub enum Handed {
 }
 
 // Beside what is then held: the answer of a call that tests the memory.
-#[derive(Drop)]
+#[derive(Clone, Copy)]
 pub struct Taken {
     pub answer: Handed,
     pub accumulator: Accumulator,

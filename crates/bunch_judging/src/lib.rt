@@ -1,4 +1,5 @@
 // How a fragment is judged, by value: `add_fragment` and `validate_sequence` of vrf-net/src/bunch.rs without the memory.
+#![tactic(auto)]
 use types::{PartialSequenceKind, RawBunchHeader};
 
 pub mod effects;
@@ -7,7 +8,7 @@ pub mod headers;
 pub mod inner;
 
 // Which limit refused a fragment. Freed room serves later fragments, so the Rust's `Allocation` never occurs.
-#[derive(Drop)]
+#[derive(Clone, Copy)]
 pub enum PartialResourceLimit {
     None,
     ActiveStates,
@@ -15,14 +16,14 @@ pub enum PartialResourceLimit {
 }
 
 // Why a message was displaced.
-#[derive(Drop)]
+#[derive(Clone, Copy)]
 pub enum PartialDiscardCause {
     Sequence(PartialSequenceKind),
     Resource(PartialResourceLimit),
 }
 
 // What a channel holds, but for its header and its bytes.
-#[derive(Drop)]
+#[derive(Clone, Copy)]
 pub enum Standing {
     Nothing,
     Message {
@@ -34,7 +35,7 @@ pub enum Standing {
 }
 
 // What becomes of a fragment and of its channel's message.
-#[derive(Drop)]
+#[derive(Clone, Copy)]
 pub enum Fate {
     // No place is left for a new message: nothing changes.
     TurnedAway,
@@ -51,7 +52,7 @@ pub enum Fate {
 }
 
 // The Rust's result but for what was displaced, and by how much its counts rise.
-#[derive(Drop)]
+#[derive(Clone, Copy)]
 pub struct PartialBunchResult {
     pub header: RawBunchHeader,
     pub should_process: bool,
@@ -65,7 +66,7 @@ pub struct PartialBunchResult {
 }
 
 // A message that left the accumulator unprocessed, without its bytes: the Rust's `PreservedPartial` and its cause.
-#[derive(Drop)]
+#[derive(Clone, Copy)]
 pub struct Displaced {
     pub header: RawBunchHeader,
     pub bit_count: u64,
@@ -73,7 +74,7 @@ pub struct Displaced {
 }
 
 // What one fragment displaces, in order: the Rust's `displaced`.
-#[derive(Drop)]
+#[derive(Clone, Copy)]
 pub enum Displacement {
     Nothing,
     One(Displaced),
@@ -81,7 +82,7 @@ pub enum Displacement {
 }
 
 // What the memory has to do.
-#[derive(Drop)]
+#[derive(Clone, Copy)]
 pub struct Effect {
     // What is shown of the displaced messages' bytes, the held message's before the payload's.
     pub shows_held: bool,

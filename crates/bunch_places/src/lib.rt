@@ -1,4 +1,6 @@
 // Edits of lent memory by index: places of words, and bytes.
+#![tactic(auto)]
+
 pub mod inner;
 
 // Four words and a header's twenty.

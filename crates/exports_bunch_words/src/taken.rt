@@ -12,7 +12,7 @@ use words::of_header;
 
 pub type HandedWords = [u64; 26];
 
-#[derive(Drop)]
+#[derive(Clone, Copy)]
 pub struct Numbers {
     pub number: u64,
     pub returned: u64,

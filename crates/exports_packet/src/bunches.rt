@@ -36,7 +36,7 @@ pub fn of_opened(r: Opened) -> ReaderWords
     }
 }
 
-#[derive(Drop)]
+#[derive(Clone, Copy)]
 struct Numbers {
     number: u64,
     first: u64,

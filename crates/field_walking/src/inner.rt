@@ -13,14 +13,14 @@ use bitio_window::{BitError, U32, Window, inner};
 
 // Which records a walk reads: the class net cache's with its function count. A stream (`Stream` of `field_records`) says more: whether
 // the bits after a RepLayout's end are skipped or retained, which is settled after the walk.
-#[derive(Drop)]
+#[derive(Clone, Copy)]
 pub enum RecordKind {
     RepLayout,
     ClassNetCache(u32),
 }
 
 // What stands where a record is looked for.
-#[derive(Drop)]
+#[derive(Clone, Copy)]
 pub enum Step {
     Ends,
     Abandons,
@@ -28,7 +28,7 @@ pub enum Step {
     Refused(BitError),
 }
 
-#[derive(Drop)]
+#[derive(Clone, Copy)]
 pub struct StepRead {
     pub answer: Step,
     pub next: Window,

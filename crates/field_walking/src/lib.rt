@@ -1,11 +1,13 @@
 // A record walk on a list of numbers: its answers, and the walk in a window that has been tested.
+#![tactic(auto)]
+
 use bitio_window::{BitError, PacketBit, Place, Window, WindowBit};
 
 pub mod inner;
 
 // What the Rust's `on_field` and `on_rpc` are given; the payload's start stands for their reader.
 #[repr(C)]
-#[derive(Drop)]
+#[derive(Clone, Copy)]
 pub struct FieldRecord {
     pub handle: u32,
     pub bit_count: u32,
@@ -17,7 +19,7 @@ pub struct FieldRecord {
 pub type Record = [u64; 4];
 
 // Why a walk refused.
-#[derive(Drop)]
+#[derive(Clone, Copy)]
 pub enum FieldError {
     Bits(BitError),
     // 14
@@ -26,7 +28,7 @@ pub enum FieldError {
     UnresolvedFunctionCount,
 }
 
-#[derive(Drop)]
+#[derive(Clone, Copy)]
 pub enum Stop {
     Ended,
     // bits after the end, for the class net cache
@@ -36,7 +38,7 @@ pub enum Stop {
 }
 
 // Where a walk stopped, how many records it wrote, and where the reader then stands.
-#[derive(Drop)]
+#[derive(Clone, Copy)]
 pub struct Walk {
     pub stop: Stop,
     pub count: u64,

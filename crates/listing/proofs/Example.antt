@@ -13,7 +13,7 @@ use Rattle.types.specs.Continuing.{following, continues}
 use Rattle.packet_tracking.specs.Sequences.{reliably, unreliable, numbered}
 use Rattle.packet_tracking.specs.Partials.{judged, tracking}
 use Rattle.packet_reading.specs.Packet.{data_bits, whole, next_bunch}
-use Rattle.log.specs.Log.{version_of, entry_at, log_from}
+use Rattle.packet_log.specs.Log.{version_of, entry_at, log_from}
 use Rattle.log_lines.specs.Decimal.{digits_from, decimal, decimal_signed}
 use Rattle.log_lines.specs.Lines.{bunch_line, packet_line}
 use Rattle.log_telling.specs.Listed.{listed_from}

@@ -1,9 +1,9 @@
 -- What holds at each turn of the loop over records, and where a record that is found lies.
 use Rattle.std.proofs.Common.{◌≡◌, ℕ, zero, suc, ◌+◌, ◌<◌, ◌≤◌, List, length, get_or, take, ℤ, sym, refl, ◌∙◌, arith, length-take-le}
-use Rattle.log.specs.declared.Entry.{Entry}
-use Rattle.log.specs.declared.Version.{Version}
-use Rattle.log.specs.Log.{version_of, entry_at}
-use Rattle.log.proofs.Steps.{within}
+use Rattle.packet_log.specs.declared.Entry.{Entry}
+use Rattle.packet_log.specs.declared.Version.{Version}
+use Rattle.packet_log.specs.Log.{version_of, entry_at}
+use Rattle.packet_log.proofs.Steps.{within}
 use Rattle.listing.specs.declared.inner.input.Part.{Part}
 use Rattle.tables.specs.Columns.{ascending}
 use Rattle.packet_reading.specs.Memory.{ReaderMemory, reader_memory}

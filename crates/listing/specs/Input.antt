@@ -1,7 +1,7 @@
 -- What the program's functions hand on: a part of the log in a buffer, and a record in it.
 use Rattle.std.specs.Prelude.{◌≡◌, ℕ, ◌+◌, ◌-◌, ◌%◌, ◌^◌, ◌<◌, ◌≤◌, List, length, ℤ, slice_index}
 use Rattle.types.specs.Types.{longest_packet}
-use Rattle.log.specs.declared.Entry.{Entry}
+use Rattle.packet_log.specs.declared.Entry.{Entry}
 use Rattle.listing.specs.declared.inner.input.Part.{Part}
 use Rattle.listing.specs.declared.inner.input.Refilled.{Refilled}
 use Rattle.listing.specs.Calls.{bytes_moved}

@@ -2,7 +2,7 @@
 use Rattle.std.specs.Prelude.{ℕ, List, [], ◌∷◌, ◌++◌}
 use Rattle.types.specs.Types.{most_channels}
 use Rattle.packet_reading.specs.Packet.{ReaderTables, empty_tables}
-use Rattle.log.specs.Log.{Packet, Ending, whole, other_version, cut, log_of}
+use Rattle.packet_log.specs.Log.{Packet, Ending, whole, other_version, cut, log_of}
 use Rattle.log_lines.specs.Lines.{version_line, cut_line}
 use Rattle.log_telling.specs.Listed.{listed_packet}
 

@@ -1,6 +1,6 @@
 -- How a listing ends: by what was read and written, and the line on standard error that says so.
 use Rattle.std.specs.Prelude.{◌≡◌, ℕ, ◌+◌, ◌%◌, ◌^◌, cond, List, [], ◌∷◌, ◌++◌, ◌==◌, nat_lt}
-use Rattle.log.specs.declared.Version.{Version}
+use Rattle.packet_log.specs.declared.Version.{Version}
 use Rattle.log_lines.specs.Decimal.{decimal}
 use Rattle.log_lines.specs.Lines.{spaced_fields, version_line, cut_line}
 use Rattle.listing.specs.declared.inner.moved.Moved.{Moved}

@@ -1,4 +1,5 @@
 // Lists a packet log that it reads on standard input, and says on standard error how the listing ended.
+#![tactic(auto)]
 ghost use Rattle.std.specs.Prelude.{◌≡◌, length};
 ghost use Rattle.types.specs.Types.{most_channels};
 

@@ -1,8 +1,9 @@
 // The lines of the listing, as bytes in a lent slice.
+#![tactic(auto)]
 pub mod inner;
 
 // What a bunch's line shows of its header, by the header's names.
-#[derive(Drop)]
+#[derive(Clone, Copy)]
 pub struct BunchLine {
     pub packet_id: i32,
     pub ch_index: u32,
@@ -19,7 +20,7 @@ pub struct BunchLine {
 }
 
 // What a packet's line shows.
-#[derive(Drop)]
+#[derive(Clone, Copy)]
 pub struct PacketLine {
     pub packet_id: i32,
     pub bunches: u64,

@@ -22,7 +22,7 @@ pub fn is_room(bytes: usize) -> bool
 }
 
 // What the reads of a packet have raised.
-#[derive(Drop)]
+#[derive(Clone, Copy)]
 pub struct Sums {
     pub bunches: u64,
     pub malformed_packets: u64,
@@ -31,14 +31,14 @@ pub struct Sums {
 }
 
 // Where a bunch's line ends, and whether another bunch may follow.
-#[derive(Drop)]
+#[derive(Clone, Copy)]
 pub struct Shown {
     pub end: usize,
     pub more: bool,
 }
 
 // Where a packet's text ends, and how many places of each table then count.
-#[derive(Drop)]
+#[derive(Clone, Copy)]
 pub struct Told {
     pub end: usize,
     pub live_sequences: usize,

@@ -16,19 +16,19 @@ use types::{CHANNEL_CLOSE_REASON_MAX, MAX_PACKET_SIZE_BITS};
 pub mod quick;
 
 // Where a row of reads stands, and whether one of them was refused.
-#[derive(Drop)]
+#[derive(Clone, Copy)]
 pub struct Row {
     pub stopped: bool,
     pub at: Window,
 }
 
-#[derive(Drop)]
+#[derive(Clone, Copy)]
 pub struct FlagTaken {
     pub value: bool,
     pub row: Row,
 }
 
-#[derive(Drop)]
+#[derive(Clone, Copy)]
 pub struct NumberTaken {
     pub value: u32,
     pub row: Row,
@@ -110,7 +110,7 @@ fn serialized(bytes: &[u8], row: Row, wanted: bool, max: u32) -> NumberTaken
     number(bitio_window::inner::numbers::serialized(bytes, at, max))
 }
 
-#[derive(Drop)]
+#[derive(Clone, Copy)]
 pub struct HeaderRead {
     pub stopped: bool,
     pub fields: BunchFields,

@@ -1,8 +1,10 @@
 // The bits of a bunch header: what `parse_bunch_header` of vrf-net/src/packet.rs reads.
+#![tactic(auto)]
+
 pub mod inner;
 
 // What the bits of a header say, wherever it stands; the close reason as its number.
-#[derive(Drop)]
+#[derive(Clone, Copy)]
 pub struct BunchFields {
     pub b_open: bool,
     pub b_close: bool,

@@ -1,11 +1,12 @@
 // A bunch read over tables that have been tested: one turn of vrf-net/src/packet.rs.
+#![tactic(auto)]
 use bitio_window::{PacketBit, Window};
 use types::RawBunchHeader;
 
 pub mod inner;
 
 // The Rust's `RawPacketReader` without its maps, which are lent: its limit, and how many places of each table count.
-#[derive(Drop)]
+#[derive(Clone, Copy)]
 pub struct RawPacketReader {
     pub max_channels: usize,
     pub live_sequences: usize,
@@ -13,7 +14,7 @@ pub struct RawPacketReader {
 }
 
 // Why a call refused, each case with document 01's number.
-#[derive(Drop)]
+#[derive(Clone, Copy)]
 pub enum PacketError {
     // 5
     CursorPastEnd { position: u64, available: u64 },
@@ -26,7 +27,7 @@ pub enum PacketError {
 }
 
 // What stands at the cursor.
-#[derive(Drop)]
+#[derive(Clone, Copy)]
 pub enum Bunch {
     Read {
         header: RawBunchHeader,
@@ -38,7 +39,7 @@ pub enum Bunch {
 }
 
 // The next cursor, by how much the Rust's counts rise, and how many places of each table then count.
-#[derive(Drop)]
+#[derive(Clone, Copy)]
 pub struct BunchRead {
     pub answer: Bunch,
     pub next: PacketBit,

@@ -1,4 +1,6 @@
 // What the layers share: vrf-net/src/types.rs, the kinds of error.rs, and the header of bunch.rs.
+#![tactic(auto)]
+
 ghost use Rattle.std.specs.Prelude.{◌≡◌, ◌<◌};
 ghost use Rattle.types.specs.Types.{close_reason_maximum, reason_word, reason_of};
 
@@ -26,7 +28,7 @@ pub const MAX_BUFFERED_PARTIAL_BITS: u64 = 536870912;
 // The serialized maximum of a close reason: the Rust's ChannelCloseReason::MAX.
 pub const CHANNEL_CLOSE_REASON_MAX: u32 = 15;
 
-#[derive(Drop)]
+#[derive(Clone, Copy)]
 pub enum ChannelCloseReason {
     Destroyed,
     Dormancy,
@@ -53,7 +55,7 @@ pub fn from_raw(raw: u64) -> ChannelCloseReason
 }
 
 // The Rust has these four in an Option; `None` is its none.
-#[derive(Drop)]
+#[derive(Clone, Copy)]
 pub enum PartialSequenceKind {
     None,
     MissingInitial,
@@ -62,7 +64,7 @@ pub enum PartialSequenceKind {
     NonByteAlignedFragment,
 }
 
-#[derive(Drop)]
+#[derive(Clone, Copy)]
 pub struct RawBunchHeader {
     pub packet_id: i32,
     pub ch_index: u32,

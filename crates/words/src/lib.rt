@@ -1,4 +1,6 @@
 // A bunch's header as words, and back: so that it can stand in lent memory.
+#![tactic(auto)]
+
 ghost use Rattle.std.specs.Prelude.{◌≡◌};
 ghost use Rattle.words.specs.Words.{kind_word, header_words, kind_of, header_from};
 

@@ -1,11 +1,12 @@
 // A bunch writer over a lent packet: what it writes, the packet reader reads back.
+#![tactic(auto)]
 use bitio_window::PacketBit;
 
 pub mod inner;
 pub mod writing;
 
 // Why a call refused, each case with document 01's number.
-#[derive(Drop)]
+#[derive(Clone, Copy)]
 pub enum WriteError {
     // 5
     CursorPastRoom { position: u64, available: u64 },
@@ -20,7 +21,7 @@ pub enum WriteError {
 }
 
 // Up to which bit the packet is written, or why nothing was.
-#[derive(Drop)]
+#[derive(Clone, Copy)]
 pub enum Written {
     To(PacketBit),
     Refused(WriteError),

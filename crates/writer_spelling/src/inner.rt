@@ -3,7 +3,7 @@ pub mod fields;
 pub mod words;
 
 // The lowest `count` bits of a word.
-#[derive(Drop)]
+#[derive(Clone, Copy)]
 pub struct Bits {
     pub word: u64,
     pub count: u64,

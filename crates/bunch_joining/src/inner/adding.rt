@@ -33,7 +33,7 @@ use tables::{Slot, inner};
 use types::{MAX_PAYLOAD_BITS, RawBunchHeader};
 use words::HeaderWords;
 
-#[derive(Drop)]
+#[derive(Clone, Copy)]
 pub struct Outcome {
     pub answer: Judged,
     pub left: Settled,
@@ -82,7 +82,7 @@ fn kept(initial: bool, held: u64) -> u64
 }
 
 // What a fragment meets: what its channel holds and with how many bits, and whether it passes a limit.
-#[derive(Drop)]
+#[derive(Clone, Copy)]
 pub struct Meeting {
     pub standing: Standing,
     pub held: u64,

@@ -20,7 +20,7 @@ use tables::{Slot, inner};
 use types::RawBunchHeader;
 use words::header_of;
 
-#[derive(Drop)]
+#[derive(Clone, Copy)]
 pub struct Given {
     pub answer: Handed,
     pub left: Settled,

@@ -118,7 +118,7 @@ fn bits_if(shown: bool, n: u64) -> u64
 }
 
 // A fate with its effect, and how much is shown: bytes of the held message, bits of the payload.
-#[derive(Drop)]
+#[derive(Clone, Copy)]
 pub struct Weighed {
     pub fate: Fate,
     pub effect: Effect,

@@ -15,7 +15,7 @@ use tables::inner;
 use words::HeaderWords;
 
 // What is held after an edit, and how many bytes of the arena are used.
-#[derive(Drop)]
+#[derive(Clone, Copy)]
 pub struct Settled {
     pub accumulator: Accumulator,
     pub used: usize,

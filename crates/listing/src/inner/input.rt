@@ -8,14 +8,14 @@ use crate::inner::moved::Moved;
 use libc::STDIN_FILENO;
 
 // The bytes of the log before the buffer, and how many stand in it.
-#[derive(Drop)]
+#[derive(Clone, Copy)]
 pub struct Part {
     pub before: u64,
     pub held: usize,
 }
 
 // The part after a read, and what the read came to.
-#[derive(Drop)]
+#[derive(Clone, Copy)]
 pub struct Refilled {
     pub part: Part,
     pub moved: Moved,

@@ -3,7 +3,7 @@ ghost use Rattle.std.specs.Prelude.{◌≡◌};
 ghost use Rattle.listing.specs.Calls.{error_number, failed_by, moved_by, bytes_moved, error_of, is_interrupted, if_any, turns_to_write};
 
 // So many bytes; none, since a signal came first; or the error's number.
-#[derive(Drop)]
+#[derive(Clone, Copy)]
 pub enum Moved {
     Bytes(usize),
     Interrupted,

@@ -4,11 +4,11 @@ ghost use Rattle.listing.specs.Outcomes.{read_failed, first_read, opened as open
 
 use crate::inner::moved;
 use crate::inner::moved::Moved;
-use log::Version;
+use packet_log::Version;
 
 // It goes on, or has ended. A number is a byte of the log (`Ended`: its length), but for the version, an error's number, and of a
 // write that failed how many bytes of the listing are out.
-#[derive(Drop)]
+#[derive(Clone, Copy)]
 pub enum Outcome {
     GoesOn,
     Ended(u64),

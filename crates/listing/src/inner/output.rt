@@ -10,14 +10,14 @@ use crate::inner::{moved, outcome};
 use libc::STDOUT_FILENO;
 
 // How many bytes are out and, where not all are, the error's number.
-#[derive(Drop)]
+#[derive(Clone, Copy)]
 pub struct Flushed {
     pub bytes: usize,
     pub error: u64,
 }
 
 // How much of the buffer waits, how many bytes of the listing are out, and whether it goes on.
-#[derive(Drop)]
+#[derive(Clone, Copy)]
 pub struct Room {
     pub used: usize,
     pub written: u64,

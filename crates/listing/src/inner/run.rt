@@ -3,7 +3,7 @@ ghost use Rattle.std.specs.Prelude.{◌≡◌, ◌≤◌};
 ghost use Rattle.types.specs.Types.{most_channels};
 ghost use Rattle.packet_reading.specs.Memory.{reader_memory};
 ghost use Rattle.packet_reading.specs.State.{TablesSound};
-ghost use Rattle.log.specs.Log.{entry_at};
+ghost use Rattle.packet_log.specs.Log.{entry_at};
 ghost use Rattle.listing.specs.Input.{InBuffer, Short};
 ghost use Rattle.listing.specs.Outcomes.{Concluded, last_line};
 ghost use Rattle.log_lines.specs.Texts.{written as textWritten};
@@ -13,12 +13,12 @@ use crate::inner::input::Part;
 use crate::inner::outcome::Outcome;
 use crate::inner::{input, outcome, output, said};
 use libc::STDOUT_FILENO;
-use log::{Entry, Version};
+use packet_log::{Entry, Version};
 use packet_reading::RawPacketReader;
 use types::MAX_ACTIVE_CHANNELS;
 
 // The tables' counts, how much of the lines waits and how much is out, and how the listing ended.
-#[derive(Drop)]
+#[derive(Clone, Copy)]
 pub struct Listed {
     pub reader: RawPacketReader,
     pub used: usize,
@@ -27,7 +27,7 @@ pub struct Listed {
 }
 
 // The same once nothing waits.
-#[derive(Drop)]
+#[derive(Clone, Copy)]
 pub struct Ended {
     pub reader: RawPacketReader,
     pub outcome: Outcome,
@@ -37,7 +37,7 @@ pub struct Ended {
 fn record_at(bytes: &[u8], at: u64) -> Entry
     ensures { (result ≡ entry_at bytes.now at) × Short result }
 {
-    log::reading::record_at(bytes, at)
+    packet_log::reading::record_at(bytes, at)
 }
 
 // A proved loop has to end, and nothing says that an input does: it counts its turns down, from a number that no run uses up.
@@ -164,7 +164,7 @@ pub fn list(
     let refilled = input::refill(buffer, Part { before: 0, held: 0 }, 0);
     let part = refilled.part;
     let held = part.held;
-    let version = log::reading::version(&buffer[..held]);
+    let version = packet_log::reading::version(&buffer[..held]);
     if let Version::Ours = version {
         let listed = records(
             buffer,

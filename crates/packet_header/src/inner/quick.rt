@@ -14,25 +14,25 @@ use bitio_window::inner::numbers::serialized_width;
 use types::{CHANNEL_CLOSE_REASON_MAX, MAX_PACKET_SIZE_BITS};
 
 // What is left of the word, and how many of its bits were used.
-#[derive(Drop)]
+#[derive(Clone, Copy)]
 pub struct Rest {
     pub word: u64,
     pub used: u64,
 }
 
-#[derive(Drop)]
+#[derive(Clone, Copy)]
 pub struct QuickFlag {
     pub value: bool,
     pub rest: Rest,
 }
 
-#[derive(Drop)]
+#[derive(Clone, Copy)]
 pub struct QuickNumber {
     pub value: u32,
     pub rest: Rest,
 }
 
-#[derive(Drop)]
+#[derive(Clone, Copy)]
 pub struct QuickFields {
     pub fields: BunchFields,
     pub rest: Rest,

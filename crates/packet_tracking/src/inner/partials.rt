@@ -12,7 +12,7 @@ use packet_header::BunchFields;
 use tables::{Slot, inner};
 use types::continuing::continues;
 
-#[derive(Drop)]
+#[derive(Clone, Copy)]
 pub struct Tracked {
     pub error: bool,
     pub completed: bool,
@@ -20,21 +20,21 @@ pub struct Tracked {
 }
 
 // What is in flight on the bunch's channel, as its words.
-#[derive(Drop)]
+#[derive(Clone, Copy)]
 pub enum Held {
     Nothing,
     InFlight { sequence: u32, reliable: u32 },
 }
 
 // What becomes of it.
-#[derive(Drop)]
+#[derive(Clone, Copy)]
 pub enum Effect {
     Stays,
     Puts,
     Removed,
 }
 
-#[derive(Drop)]
+#[derive(Clone, Copy)]
 pub struct Verdict {
     pub effect: Effect,
     pub error: bool,

@@ -9,7 +9,7 @@ ghost use Rattle.packet_tracking.specs.Fits.{TableFits, TableLive};
 use tables::{Slot, inner};
 use types::continuing::{LAST_SEQUENCE, following};
 
-#[derive(Drop)]
+#[derive(Clone, Copy)]
 pub struct Numbered {
     pub sequence: u32,
     pub limited: bool,

@@ -1,0 +1,6 @@
+-- All 64 bits are the number.
+use borrow.Author.Rules.{rules}
+use Rattle.bitio.proofs.reads.read_u64.Goals as goal
+
+pub returns : goal.returns
+returns c = c.read_bits.ensures

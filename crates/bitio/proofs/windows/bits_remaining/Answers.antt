@@ -1,0 +1,12 @@
+-- The test and its two cases.
+use borrow.Author.Tests.{lt-ltb, le-ltb}
+use Rattle.bitio_window.specs.Windows.{bits_remaining}
+use Rattle.bitio.proofs.windows.bits_remaining.Goals as goal
+
+pub returns-then-w-position : goal.returns-then-w-position
+unfolding bits_remaining
+returns-then-w-position c = simp (lt-ltb _ _ c.if-w-position.true)
+
+pub returns : goal.returns
+unfolding bits_remaining
+returns c = simp (le-ltb _ _ c.if-w-position.false)

@@ -1,0 +1,39 @@
+-- The numbers at the slot keep the steps in range. What they show and drop is the step of a message that is handed out.
+use native.Mathlib.Omega.{arith}
+use Rattle.bunch_held.proofs.Holding.{start_asks}
+use Rattle.bunch_settling.proofs.Numbers.{spot}
+use Rattle.bunch_joining.proofs.Handing.{gives_short, gives_message}
+use borrow.Author.Rules.{rules}
+use Rattle.bunch_joining.proofs.inner.taking.hand_out.Goals as goal
+
+pub returns-then-output-n : goal.returns-then-output-n
+returns-then-output-n c =
+    let a = c.args in
+    let q = c.requires in
+    gives_short _ _ _ q.0 _ _ q.1 _ a.output.now c.bytes_of-n.ensures c.if-output-n.true c.unchanged.ensures
+
+pub returns : goal.returns
+returns c =
+    let a = c.before.before.before.before.before.before.before.before.before.before.before.before.before.before.before.before.before.before.before.before.before.before.before.args in
+    let q = c.before.before.before.before.before.before.before.before.before.before.before.before.before.before.before.before.before.before.before.before.before.before.before.requires in
+    let n = c.bytes_of.ensures in
+    rw c.header_in-header.ensures
+    (gives_message _ _ _ q.0 _ _ q.1 a.output.now (omega (arith, n, c.if1.false)) (rw (n, c.start_of_lem.ensures) at c.copy_bytes.ensures) c.drop_message-left.ensures)
+
+pub offset_bounds-places-i : goal.offset_bounds-places-i
+offset_bounds-places-i c = let q = c.requires in let f = spot _ _ _ q.0 _ _ q.1 in omega (arith, f)
+
+pub slice_copy_out-p : goal.slice_copy_out-p
+slice_copy_out-p c = let q = c.requires in let f = spot _ _ _ q.0 _ _ q.1 in omega (arith, f)
+
+pub bytes_of-n-requires : goal.bytes_of-n-requires
+bytes_of-n-requires c = let q = c.requires in let f = spot _ _ _ q.0 _ _ q.1 in omega (arith, f)
+
+pub start_of-start-requires : goal.start_of-start-requires
+start_of-start-requires c = let q = c.before.before.before.before.before.before.before.requires in let f = spot _ _ _ q.0 _ _ q.1 in start_asks _ _ q.0.stands _ (omega (arith, f.live))
+
+pub copy_bytes-requires : goal.copy_bytes-requires
+copy_bytes-requires c = let q = c.before.before.before.before.before.before.before.before.before.before.requires in let f = spot _ _ _ q.0 _ _ q.1 in (omega (arith, f, c.start_of_lem.ensures, c.bytes_of.ensures), omega (arith, c.if1.false))
+
+pub drop_message-left-requires : goal.drop_message-left-requires
+drop_message-left-requires c = let q = c.before.before.before.before.before.before.before.before.before.before.before.before.before.before.before.before.requires in record { sound = q.0; slot = q.1; start_is = c.start_of_lem.ensures }

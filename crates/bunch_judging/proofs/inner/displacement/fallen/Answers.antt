@@ -1,0 +1,13 @@
+-- What the fragment joins, its header after the test and the cause are those of the definition.
+use borrow.Author.Rules.{rules}
+use Rattle.bunch_judging.proofs.inner.displacement.fallen.Goals as goal
+
+pub returns : goal.returns
+returns c bytes payload =
+    let words = c.args.words in
+    rw (
+      ← (c.after_test_lem.ensures words bytes),
+      ← c.or_overlapping.ensures,
+      ← (c.Joined-by.ensures.0 words bytes),
+    )
+    (c.joined.ensures bytes payload)

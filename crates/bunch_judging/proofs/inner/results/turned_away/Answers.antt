@@ -1,0 +1,6 @@
+-- The parts are those of the definition.
+use borrow.Author.Rules.{rules}
+use Rattle.bunch_judging.proofs.inner.results.turned_away.Goals as goal
+
+pub returns : goal.returns
+returns c = rw (← c.erring-flagged.ensures) c.refused.ensures

@@ -1,0 +1,16 @@
+use mathlib.Core.Path.{◌≡◌, refl, ◌∙◌}
+use Prim.Native.Nat.{◌+◌, ◌-◌, ◌≤◌}
+use native.Mathlib.Omega.{arith}
+use lib.ListN.{length}
+use borrow.Author.Rules.{rules}
+use Rattle.bunch_places.specs.Bytes.{pasted, part}
+use Rattle.bunch_places.proofs.Pastes.{pasted_none}
+use Rattle.bunch_places.proofs.Blocks.{copies_block, length_block}
+use Rattle.bunch_places.proofs.Overlaps.{copies_over}
+use Rattle.bunch_places.proofs.inner.copy_bytes.Given as goal
+
+abbrev pub invariant-loop-i : goal.invariant-loop-i
+invariant-loop-i l = (l.i ≤ l.n) × (length l.out ≡ length l.initial.out) × (l.out ≡ pasted l.at (part l.from l.i l.src) l.initial.out)
+
+abbrev pub decreases-loop-i : goal.decreases-loop-i
+decreases-loop-i l = l.n - l.i

@@ -1,0 +1,15 @@
+use mathlib.Core.Path.{◌≡◌, refl, ◌∙◌}
+use Prim.Native.Nat.{◌+◌, ◌-◌, ◌≤◌}
+use native.Mathlib.Omega.{arith}
+use lib.ListN.{length}
+use borrow.Author.Rules.{rules}
+use Rattle.bunch_places.proofs.Pastes.{MovedFrom, moves_none}
+use Rattle.bunch_places.proofs.Blocks.{moves_block, moves_rest, length_block}
+use Rattle.bunch_places.proofs.Overlaps.{moves_over}
+use Rattle.bunch_places.proofs.inner.move_up.Given as goal
+
+abbrev pub invariant-loop-i : goal.invariant-loop-i
+invariant-loop-i l = (l.i ≤ l.n) × (length l.arena ≡ length l.initial.arena) × MovedFrom l.from l.to l.n l.i l.initial.arena l.arena
+
+abbrev pub decreases-loop-i : goal.decreases-loop-i
+decreases-loop-i l = l.i

@@ -1,0 +1,13 @@
+-- What stays starts with the words and bytes that it means; else nothing changes.
+use Rattle.bunch_settling.proofs.Settles.{new_is, starting, staying}
+use borrow.Author.Rules.{rules}
+use Rattle.bunch_settling.proofs.inner.fragments.settle_free.Goals as goal
+
+pub returns-then-e : goal.returns-then-e
+returns-then-e c = rw c.if-e.true (c.start_message.ensures _ (rw c.started_place-next.ensures (new_is _ _ _ _ _ _ _ _ _ _ _ c.requires)))
+
+pub start_message-requires : goal.start_message-requires
+start_message-requires c = starting _ _ _ _ _ _ _ _ _ _ _ c.requires c.started_place-next.ensures c.if-e.true
+
+pub returns : goal.returns
+returns c = rw c.if-e.false (staying _ _ _ _ _ _ _ _ _ _ _ c.requires)

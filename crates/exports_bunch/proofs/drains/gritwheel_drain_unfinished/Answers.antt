@@ -1,0 +1,36 @@
+-- A drain that lists found the memory sound, so that its places can be counted; the words are what the call answers.
+use mathlib.Core.Path.{◌∙◌}
+use native.Mathlib.Omega.{arith}
+use Rattle.bunch_held.specs.Memory.{held_memory, accumulator_of}
+use Rattle.bunch_held.proofs.Soundness.{stands}
+use Rattle.bunch_held.proofs.Holding.{start_asks}
+use Rattle.bunch.proofs.DrainCalls.{bytes_are}
+use Rattle.exports_bunch.specs.Drained.{shown_byte_count}
+use Rattle.exports_bunch.proofs.Draining.{was_sound, told_lists, told_refuses}
+use borrow.Author.Rules.{rules}
+use Rattle.exports_bunch.proofs.drains.gritwheel_drain_unfinished.Goals as goal
+
+pub count-wanted-requires : goal.count-wanted-requires
+count-wanted-requires c =
+    let x = c.args in
+    let a = accumulator_of x.max-active x.max-buffered-bits x.active x.total in
+    let m = held_memory x.channels.now x.places.now x.arena.now in
+    let reply = c.drain_unfinished-reply in
+    start_asks a m (stands a m (was_sound reply.result _ _ a m x.output.now x.list.now reply.ensures c.in-Messages.is)) x.active (omega arith)
+
+pub returns-in-Messages : goal.returns-in-Messages
+returns-in-Messages c =
+    let x = c.args in
+    let a = accumulator_of x.max-active x.max-buffered-bits x.active x.total in
+    let m = held_memory x.channels.now x.places.now x.arena.now in
+    let reply = c.drain_unfinished-reply in
+    let s = stands a m (was_sound reply.result _ _ a m x.output.now x.list.now reply.ensures c.in-Messages.is) in
+    rw (c.count-wanted.ensures.1 ∙ bytes_are a m s) (told_lists reply.result _ _ reply.ensures (shown_byte_count a m) c.in-Messages.is)
+
+pub returns-in-Refused : goal.returns-in-Refused
+returns-in-Refused c =
+    let x = c.args in
+    let a = accumulator_of x.max-active x.max-buffered-bits x.active x.total in
+    let m = held_memory x.channels.now x.places.now x.arena.now in
+    let reply = c.drain_unfinished-reply in
+    rw c.said-s.ensures (told_refuses reply.result _ _ reply.ensures (shown_byte_count a m) c.in-Refused.is)

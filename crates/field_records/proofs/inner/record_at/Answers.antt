@@ -1,0 +1,7 @@
+-- The four numbers of the place, each in its field.
+use mathlib.Core.Path.{refl}
+use borrow.Author.Rules.{rules}
+use Rattle.field_records.proofs.inner.record_at.Goals as goal
+
+pub returns : goal.returns
+returns c = refl

@@ -1,0 +1,19 @@
+-- The walk into a part of the numbers, as the walk into the whole list (proofs/Kept.antt).
+use mathlib.Core.Path.{sym}
+use native.Mathlib.Omega.{arith}
+use borrow.Author.Rules.{rules}
+use lib.Seq.{length-take-le}
+use Rattle.field_records.proofs.Kept.{walks_into, leaves_ready}
+use Rattle.field_records.proofs.inner.walk_numbers.Goals as goal
+
+pub slice_bounds-walk-end-2 : goal.slice_bounds-walk-end-2
+slice_bounds-walk-end-2 c = sym (length-take-le c.least-n.result c.args.numbers.now (omega (arith, c.least-n.ensures)))
+
+pub returns : goal.returns
+returns c =
+    let a = c.args in
+    let e = c.least-n.ensures in
+    let h = c.walk.ensures in (
+      walks_into a.room a.numbers.now a.stream a.bytes.now a.w c.walk.result _ e h,
+      leaves_ready a.room a.numbers.now a.stream a.bytes.now a.w c.walk.result _ e h,
+    )

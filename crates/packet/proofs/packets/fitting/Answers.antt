@@ -1,0 +1,6 @@
+-- The definition, word for word.
+use borrow.Author.Rules.{rules}
+use Rattle.packet.proofs.packets.fitting.Goals as goal
+
+pub returns : goal.returns
+returns c = rw c.in_limit.ensures

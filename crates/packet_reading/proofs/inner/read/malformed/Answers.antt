@@ -1,0 +1,6 @@
+-- The counts that rise, for any memory.
+use borrow.Author.Rules.{rules}
+use Rattle.packet_reading.proofs.inner.read.malformed.Goals as goal
+
+pub returns : goal.returns
+returns c = λ m. rw c.count.ensures

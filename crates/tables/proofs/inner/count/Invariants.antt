@@ -1,0 +1,14 @@
+use mathlib.Core.Logic.{⊎_elim}
+use mathlib.Core.Path.{◌≡◌}
+use Prim.Native.Nat.{suc, ◌+◌, ◌-◌, ◌≤◌}
+use native.Mathlib.Omega.{arith}
+use borrow.Author.Rules.{rules}
+use Rattle.tables.specs.Search.{Near}
+use Rattle.tables.proofs.Searches.{counted, passed, none_counted, all_counted}
+use Rattle.tables.proofs.inner.count.Given as goal
+
+abbrev pub invariant-loop-i : goal.invariant-loop-i
+invariant-loop-i l = (l.i ≤ l.n) × (l.k ≤ l.i) × Near l.channels (l.from + l.i) l.channel (l.from + l.k) 0
+
+abbrev pub decreases-loop-i : goal.decreases-loop-i
+decreases-loop-i l = l.n - l.i

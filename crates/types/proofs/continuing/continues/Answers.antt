@@ -1,0 +1,8 @@
+-- The definition, word for word.
+use borrow.Author.Rules.{rules}
+use Rattle.types.specs.Continuing.{continues}
+use Rattle.types.proofs.continuing.continues.Goals as goal
+
+pub returns : goal.returns
+unfolding continues
+returns c = rw (c.agree.ensures, c.following-next.ensures)

@@ -1,0 +1,24 @@
+-- The byte's low bits and the word above them, stored, are the bits put one after the other: the laws of Pushing.
+use mathlib.Core.Path.{◌∙◌}
+use native.Mathlib.Omega.{arith}
+use Prim.Native.Nat.{◌/◌}
+use borrow.Author.Rules.{rules}
+use Rattle.writer.proofs.Pushing.{word_fits, pushed}
+use Rattle.writer.proofs.inner.push.push.Goals as goal
+
+pub overflow_cast-packet : goal.overflow_cast-packet
+overflow_cast-packet c = omega (arith, c.slice_known-2-1.given (c.args.at / 8))
+
+pub overflow_add-kept : goal.overflow_add-kept
+overflow_add-kept c =
+    let a = c.args in
+    record {
+      fits = word_fits a.packet.now a.at a.bits.count a.bits.word c.requires.0.within c.requires.2 c.low_by_shift-kept.ensures.0;
+    }
+
+pub returns : goal.returns
+returns c =
+    let a = c.args in
+    c.store.ensures
+    ∙ pushed a.packet.now a.at a.bits.count a.bits.word c.requires.0.within c.requires.2 c.low_by_shift-kept.ensures.0
+    c.requires.1 c.requires.3
