@@ -11,7 +11,7 @@ use Rattle.bunch_judging.specs.declared.PartialDiscardCause.{PartialDiscardCause
 use Rattle.bunch_judging.specs.Held.{Message, Held, Fragment, Displaced}
 use Rattle.bunch_judging.specs.Fates.{fate}
 use Rattle.bunch_judging.specs.Messages.{held_after, displaced, bytes_of_all}
-use Rattle.bunch_judging.specs.Results.{result}
+use Rattle.bunch_judging.specs.Results.{result_of}
 use Rattle.bunch_held.specs.Memory.{State, total}
 
 -- what is asked of a channel
@@ -59,7 +59,7 @@ added full over m f output =
     cond (ltb longest_payload f.bits) (call_refuses (payload_too_long f.bits) m output)
     (cond (ltb (8 * length f.payload) f.bits) (call_refuses (payload_short f.bits) m output)
     (let x = fate full over m f.header f.bits in
-    showing (bytes_of_all (displaced x m f)) (judged (result x m f) (told_all (displaced x m f))) (held_after x m f) m output))
+    showing (bytes_of_all (displaced x m f)) (judged (result_of x m f) (told_all (displaced x m f))) (held_after x m f) m output))
 
 abbrev pub handing : Held → List ℕ → Local
 handing h output = showing h.message.bytes (handed (message_out h.message)) none (found h) output

@@ -15,7 +15,7 @@ use Rattle.bunch_judging.specs.Held.{Fragment}
 use Rattle.bunch_judging.specs.Fates.{sequence_word, overlaps, fate}
 use Rattle.bunch_judging.specs.Headers.{after_test}
 use Rattle.bunch_judging.specs.Messages.{displaced}
-use Rattle.bunch_judging.specs.Results.{result}
+use Rattle.bunch_judging.specs.Results.{result_of}
 use Rattle.bunch_judging.proofs.Memory.{effect_on, shown}
 use Rattle.bunch_held.specs.declared.Accumulator.{Accumulator}
 use Rattle.bunch_held.specs.declared.BunchError.{BunchError}
@@ -56,7 +56,7 @@ module _ (a : Accumulator) (m : HeldMemory) (used : ℕ) (u : Using a m used) (c
   x_is : w.fate ≡ fate room much none f.header f.bits
   x_is = weighs.fate_is [] [] ∙ rw (meets.full_is, meets.over_is, meets.standing_is) refl
 
-  pub result_none : answered ≡ result w.fate none f
+  pub result_none : answered ≡ result_of w.fate none f
   result_none = weighs.result-is [] [] f.payload ∙ rw meets.standing_is refl
 
   pub few_shown : w.payload ≤ f.bits
@@ -91,7 +91,7 @@ module _ (a : Accumulator) (m : HeldMemory) (used : ℕ) (u : Using a m used) (c
         }
 
     pub gives_judged : (output : List ℕ) {out : List ℕ} {r : Settled} {after : HeldMemory} {told : BunchAnswer} → bytes_of w.payload ≤ length output → out ≡ pasted 0 bytes output
-        → told ≡ judged (result w.fate none f) (told_all (displaced w.fate none f)) → Lays a m (holding c (left_by w.effect none f.header f.bits f.payload) (held_by a m)) r after
+        → told ≡ judged (result_of w.fate none f) (told_all (displaced w.fate none f)) → Lays a m (holding c (left_by w.effect none f.header f.bits f.payload) (held_by a m)) r after
         → Gives a m c (local (limits_of a) (held_by a m) c (adding f) output) told r after out
     unfolding after_test overlaps
     gives_judged output fits shows told_is lays =

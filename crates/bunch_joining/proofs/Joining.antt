@@ -20,7 +20,7 @@ use Rattle.bunch_judging.specs.Held.{Held, Fragment, Displaced}
 use Rattle.bunch_judging.specs.Fates.{fate}
 use Rattle.bunch_judging.specs.Headers.{after_test}
 use Rattle.bunch_judging.specs.Messages.{replaced_by, displaced_by, displaced}
-use Rattle.bunch_judging.specs.Results.{result}
+use Rattle.bunch_judging.specs.Results.{result_of}
 use Rattle.bunch_judging.specs.Effects.{effect_of}
 use Rattle.bunch_judging.specs.Standings.{value_of, displaced_values, of_displacement}
 use Rattle.bunch_judging.proofs.Memory.{effect_on, shown, left_after, bytes_shown}
@@ -102,7 +102,7 @@ module _ (a : Accumulator) (m : HeldMemory) (used : ℕ) (u : Using a m used) (c
   module _ (small : f.bits ≤ 16383) (enough : bytes_of f.bits ≤ length f.payload) (k : Found Held) (there : get c s ≡ k) (room much : Bool) (only : room ≡ true → k ≡ none)
       (room-is : room ≡ full (limits_of a) s c) (much_is : much ≡ over (limits_of a) s c (adding f)) (x : Fate) (x_is : x ≡ fate room much k f.header f.bits) (e : Effect) (e-is : e ≡ effect_on x f) where
     abbrev answer : BunchAnswer
-    answer = judged (result x k f) (told_all (displaced x k f))
+    answer = judged (result_of x k f) (told_all (displaced x k f))
 
     local_is : local (limits_of a) s c (adding f) output ≡ showing (shown e k f) answer (left_after e k f) k output
     unfolding local locally added

@@ -12,7 +12,7 @@ use Rattle.tables.specs.Tables.{slot_of}
 use Rattle.bunch_places.specs.Bytes.{bytes_of}
 use Rattle.bunch_judging.specs.declared.PartialBunchResult.{PartialBunchResult}
 use Rattle.bunch_judging.specs.Fates.{fate}
-use Rattle.bunch_judging.specs.Results.{result}
+use Rattle.bunch_judging.specs.Results.{result_of}
 use Rattle.bunch_judging.specs.Effects.{effect_of}
 use Rattle.bunch_judging.specs.Standings.{held_of}
 use Rattle.bunch_judging.specs.Standings as S
@@ -39,5 +39,5 @@ met_at a ps initial bits r e m = rw e at m
 -- what `weigh` and `result` promise, together
 pub weighs : {met : Meeting} {h : RawBunchHeader} {bits : ℕ} {w : Weighed} {r : PartialBunchResult}
     → ((words bytes : List ℕ) → w.fate ≡ fate met.full met.over (held_of met.standing words bytes) h bits) × (w.effect ≡ effect_of w.fate h.b_partial_initial (eqb bits 0)) × (w.held ≡ cond w.effect.shows_held (bytes_of met.held) 0) × (w.payload ≡ cond w.effect.shows_payload bits 0)
-    → ((words bytes payload : List ℕ) → r ≡ result w.fate (held_of met.standing words bytes) (record { header = h; bits = bits; payload = payload })) → Weighs met h bits w r
+    → ((words bytes payload : List ℕ) → r ≡ result_of w.fate (held_of met.standing words bytes) (record { header = h; bits = bits; payload = payload })) → Weighs met h bits w r
 weighs p q = record { fate_is = p.0; effect_is = p.1; held_is = p.2; payload_is = p.3; result-is = q }

@@ -18,7 +18,7 @@ use Rattle.bunch_judging.specs.Held.{Held, Fragment}
 use Rattle.bunch_judging.specs.Fates.{sequence_word, fate}
 use Rattle.bunch_judging.specs.Headers.{after_test}
 use Rattle.bunch_judging.specs.Messages.{displaced}
-use Rattle.bunch_judging.specs.Results.{result}
+use Rattle.bunch_judging.specs.Results.{result_of}
 use Rattle.bunch_judging.proofs.Memory.{effect_on, shown}
 use Rattle.bunch_judging.specs.Standings.{held_of}
 use Rattle.bunch_held.specs.declared.Accumulator.{Accumulator}
@@ -138,7 +138,7 @@ module _ (a : Accumulator) (m : HeldMemory) (used : ℕ) (u : Using a m used) (c
 
       pub gives_judged : (output : List ℕ) {out : List ℕ} {r : Settled} {after : HeldMemory} {told : BunchAnswer} → w.held + bytes_of w.payload ≤ length output
           → out ≡ pasted 0 (part start w.held m.arena ++ payload_bytes w.payload f.payload) output
-          → ((bytes payload : List ℕ) → told ≡ judged (result w.fate (held_of standing (drop 4 p) bytes) (record { header = f.header; bits = f.bits; payload = payload })) (told_all (displaced w.fate (held_of standing (drop 4 p) bytes) (record { header = f.header; bits = f.bits; payload = payload }))))
+          → ((bytes payload : List ℕ) → told ≡ judged (result_of w.fate (held_of standing (drop 4 p) bytes) (record { header = f.header; bits = f.bits; payload = payload })) (told_all (displaced w.fate (held_of standing (drop 4 p) bytes) (record { header = f.header; bits = f.bits; payload = payload }))))
           → Lays a m (holding c (left_by w.effect (found (held_in_place i start m)) h f.bits f.payload) (held_by a m)) r after
           → Gives a m c (local (limits_of a) (held_by a m) c (adding f) output) told r after out
       gives_judged output fits shows told_is lays =

@@ -8,7 +8,7 @@ use Rattle.bunch_places.specs.Bytes.{bytes_of}
 use Rattle.bunch_judging.specs.declared.PartialBunchResult.{PartialBunchResult}
 use Rattle.bunch_judging.specs.declared.Standing.{Standing}
 use Rattle.bunch_judging.specs.Fates.{fate}
-use Rattle.bunch_judging.specs.Results.{result}
+use Rattle.bunch_judging.specs.Results.{result_of}
 use Rattle.bunch_judging.specs.Effects.{effect_of}
 use Rattle.bunch_judging.specs.Standings.{held_of, standing_bits}
 use Rattle.bunch_held.specs.declared.Accumulator.{Accumulator}
@@ -54,4 +54,4 @@ pub record Weighs (met : Meeting) (header : RawBunchHeader) (bits : ℕ) (w : We
   pub held_is : w.held ≡ cond w.effect.shows_held (bytes_of met.held) 0
   pub payload_is : w.payload ≡ cond w.effect.shows_payload bits 0
   pub result-is :
-      (words bytes payload : List ℕ) → r ≡ result w.fate (held_of met.standing words bytes) (fragment_of header bits payload)
+      (words bytes payload : List ℕ) → r ≡ result_of w.fate (held_of met.standing words bytes) (fragment_of header bits payload)

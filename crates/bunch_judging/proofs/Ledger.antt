@@ -16,7 +16,7 @@ use Rattle.bunch_judging.specs.Held.{Held, Fragment, Displaced}
 use Rattle.bunch_judging.specs.Fates.{overlaps}
 use Rattle.bunch_judging.specs.Headers.{after_test}
 use Rattle.bunch_judging.specs.Messages.{replaced_by, joined_by, joining, held_after, displaced_by, fallen, displaced, bits_held}
-use Rattle.bunch_judging.specs.Results.{result}
+use Rattle.bunch_judging.specs.Results.{result_of}
 use Rattle.bunch_judging.specs.Standings.{displaced_bits}
 use Rattle.bunch_judging.specs.Ledger.{Unreported}
 use Rattle.bunch_judging.proofs.Displacing.{join_bits, displaced_bits_are}
@@ -53,8 +53,8 @@ module _ (m : Found Held) (f : Fragment) where
   falls false false e reported = omega arith
 
   -- "bits held before + payload = held after + discarded, with one exception"
-  pub ledger : (x : Fate) → (Unreported x f → ⊥) → bits_held m + f.bits ≡ bits_held (held_after x m f) + (result x m f).discarded_bits
-  unfolding held_after result displaced_bits
+  pub ledger : (x : Fate) → (Unreported x f → ⊥) → bits_held m + f.bits ≡ bits_held (held_after x m f) + (result_of x m f).discarded_bits
+  unfolding held_after result_of displaced_bits
   ledger Fate.TurnedAway reported = refl
   ledger (Fate.Breaks k) reported = rw displaced_bits_are (omega arith)
   ledger (Fate.Fails c) reported = rw displaced_bits_are (omega arith)
@@ -65,8 +65,8 @@ module _ (m : Found Held) (f : Fragment) where
       (falls initial (eqb f.bits 0) refl (λ first none. reported (record { falls = refl; continues = first; empty = none })))
 
   -- and of the exception: nothing is held after it, and nothing discarded
-  pub unreported : (x : Fate) → Unreported x f → (bits_held (held_after x m f) ≡ 0) × ((result x m f).discarded_bits ≡ 0)
-  unfolding held_after result displaced_bits
+  pub unreported : (x : Fate) → Unreported x f → (bits_held (held_after x m f) ≡ 0) × ((result_of x m f).discarded_bits ≡ 0)
+  unfolding held_after result_of displaced_bits
   unreported x u = rw (u.falls, displaced_bits_are, u.continues, u.empty) (refl, refl)
 
   -- "At most two messages are displaced in one call"
@@ -80,8 +80,8 @@ module _ (m : Found Held) (f : Fragment) where
   at_most_two Fate.Falls = rw length-append (omega (arith, at_most_one overlapping (replaced_by initial m), last (eqb f.bits 0) (fallen m f)))
 
   -- "Errors may rise by 2."
-  pub errors_at_most_two : (x : Fate) → (result x m f).errors ≤ 2
-  unfolding result
+  pub errors_at_most_two : (x : Fate) → (result_of x m f).errors ≤ 2
+  unfolding result_of
   errors_at_most_two Fate.TurnedAway = omega arith
   errors_at_most_two (Fate.Breaks k) = omega arith
   errors_at_most_two (Fate.Fails c) = omega (arith, one_at_most (overlaps m initial))

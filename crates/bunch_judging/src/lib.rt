@@ -1,5 +1,6 @@
 // How a fragment is judged, by value: `add_fragment` and `validate_sequence` of vrf-net/src/bunch.rs without the memory.
 #![tactic(auto)]
+
 use types::{PartialSequenceKind, RawBunchHeader};
 
 pub mod effects;

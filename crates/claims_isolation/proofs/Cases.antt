@@ -12,7 +12,7 @@ use Rattle.tables.specs.Tables.{Found, none, found, get}
 use Rattle.bunch_places.specs.Bytes.{pasted, bytes_of}
 use Rattle.bunch_judging.specs.Held.{Held, Fragment}
 use Rattle.bunch_judging.specs.Messages.{held_after, displaced, bytes_of_all}
-use Rattle.bunch_judging.specs.Results.{result}
+use Rattle.bunch_judging.specs.Results.{result_of}
 use Rattle.bunch_held.specs.Memory.{State}
 use Rattle.bunch_held.specs.Steps.{Act, adding, taking, retiring, BunchAnswer, judged, handed, Local, Limits, message_out, told_all, call_refuses, showing, nothing_held, added, handing, taken, retired, locally, local}
 use Rattle.claims_isolation.proofs.Weighing.{met}
@@ -27,7 +27,7 @@ hands_out h output = shown h.message.bytes (handed (message_out h.message)) none
 abbrev pub judges : Limits → State → ℕ → Fragment → List ℕ → Local
 judges l s c f output =
     let ds = displaced (met l s c f) (get c s) f in
-    shown (bytes_of_all ds) (judged (result (met l s c f) (get c s) f) (told_all ds)) (held_after (met l s c f) (get c s) f) output
+    shown (bytes_of_all ds) (judged (result_of (met l s c f) (get c s) f) (told_all ds)) (held_after (met l s c f) (get c s) f) output
 
 -- the same, where the output may be too short
 abbrev weighed : Limits → State → ℕ → Fragment → List ℕ → Local

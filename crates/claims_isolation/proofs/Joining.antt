@@ -19,7 +19,7 @@ use Rattle.bunch_judging.specs.Held.{Message, message_of, Held, Fragment}
 use Rattle.bunch_judging.specs.Fates.{sequence_word, follows, overlaps, ending, weighed, admitted, continued, fate}
 use Rattle.bunch_judging.specs.Headers.{after_test}
 use Rattle.bunch_judging.specs.Messages.{replaced_by, joined_by, base, grown, joined_to, held_after, displaced, bits_of_all, bytes_of_all}
-use Rattle.bunch_judging.specs.Results.{accepted, result}
+use Rattle.bunch_judging.specs.Results.{accepted, result_of}
 use Rattle.bunch_held.specs.Steps.{Local, adding, added, locally}
 use Rattle.claims_isolation.specs.Runs.{Call, Each}
 use Rattle.claims_isolation.specs.Chains.{Plain, GoesOn, Unbroken, joined_bits, joined_bytes, accepted_plainly, acts_of, answers_of}
@@ -50,8 +50,8 @@ module _ (f : Fragment) (p : Plain f) where
     none_displaced true = rw replaces refl
     none_displaced false = rw replaces refl
 
-    no_error : (final : Bool) → result (ending final false) m f ≡ accepted f.header (eqb f.bits 0) final 0 0
-    unfolding ending displaced result bits_of_all after_test
+    no_error : (final : Bool) → result_of (ending final false) m f ≡ accepted f.header (eqb f.bits 0) final 0 0
+    unfolding ending displaced result_of bits_of_all after_test
     no_error true = rw (replaces, calm) refl
     no_error false = rw (replaces, calm) refl
 

@@ -12,7 +12,7 @@ use Rattle.bunch_judging.specs.declared.PartialDiscardCause.{PartialDiscardCause
 use Rattle.bunch_judging.specs.declared.Fate.{Fate}
 use Rattle.bunch_judging.specs.Held.{Held, Fragment}
 use Rattle.bunch_judging.specs.Messages.{held_after, bits_held}
-use Rattle.bunch_judging.specs.Results.{result}
+use Rattle.bunch_judging.specs.Results.{result_of}
 use Rattle.bunch_judging.proofs.Ledger.{ledger, unreported}
 use Rattle.bunch_held.specs.declared.Accumulator.{Accumulator}
 use Rattle.bunch_held.specs.Memory.{HeldMemory, State}
@@ -44,9 +44,9 @@ module _ (l : Limits) (s : State) (c : ℕ) (output : List ℕ) where
       (rw same.0 (holding_same c s a), same.1)
 
   judged_step : (f : Fragment) {r : PartialBunchResult} {ds : List (MessageOut × PartialDiscardCause)} → (local l s c (adding f) output).answer ≡ judged r ds
-      → ((local l s c (adding f) output).held ≡ held_after (met l s c f) (get c s) f) × (result (met l s c f) (get c s) f ≡ r)
+      → ((local l s c (adding f) output).held ≡ held_after (met l s c f) (get c s) f) × (result_of (met l s c f) (get c s) f ≡ r)
   judged_step f {r} {ds} =
-      local_case (λ (x : Local). x.answer ≡ judged r ds → (x.held ≡ held_after (met l s c f) (get c s) f) × (result (met l s c f) (get c s) f ≡ r)) output l s c (adding f)
+      local_case (λ (x : Local). x.answer ≡ judged r ds → (x.held ≡ held_after (met l s c f) (get c s) f) × (result_of (met l s c f) (get c s) f ≡ r)) output l s c (adding f)
       (λ e z. ((cc), (cc))) (λ z. ((cc), (cc))) (λ h g z. ((cc), (cc))) (λ g e h z. let same : f ≡ g = cc in rw same (refl, (cc)))
 
 -- ## A call
@@ -85,11 +85,11 @@ module _ (a : Accumulator) (m : HeldMemory) (c : ℕ) (f : Fragment) (output : L
   fated = met (limits_of a) (held_by a m) c f
 
   -- what the channel holds, and the answer, are those of the fragment's fate
-  pub judged_held : (afterwards ≡ held_after fated before f) × (result fated before f ≡ r)
+  pub judged_held : (afterwards ≡ held_after fated before f) × (result_of fated before f ≡ r)
   unfolding called state_after
   judged_held = go (memory_sound a m) refl
     where
-      go : (b : Bool) → memory_sound a m ≡ b → (afterwards ≡ held_after fated before f) × (result fated before f ≡ r)
+      go : (b : Bool) → memory_sound a m ≡ b → (afterwards ≡ held_after fated before f) × (result_of fated before f ≡ r)
       go true s =
           let step = judged_step (limits_of a) (held_by a m) c output f (rw s at answers) in
           (ap (get c) (holds_next a m c (adding f) output s in_range) ∙ get_holding c (local (limits_of a) (held_by a m) c (adding f) output).held (held_by a m) ∙ step.0, step.1)

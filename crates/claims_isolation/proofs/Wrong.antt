@@ -15,7 +15,7 @@ use Rattle.types.specs.Continuing.{continues, following}
 use Rattle.bunch_judging.specs.Fates.{fate, follows, overlaps, admitted, weighed, ending, continued}
 use Rattle.bunch_judging.specs.Headers.{after_test, flagged}
 use Rattle.bunch_judging.specs.Messages.{bytes_of_all, displaced, bits_of_all, held_after}
-use Rattle.bunch_judging.specs.Results.{result}
+use Rattle.bunch_judging.specs.Results.{result_of}
 use Rattle.bunch_held.specs.Memory.{State, total}
 use Rattle.bunch_held.specs.Steps.{Act, adding, BunchAnswer, refused, judged, handed, nothing, Local, Limits, reached, added, locally, full, over, holding}
 use Rattle.claims_isolation.specs.Runs.{Call, calls_of, Each, is_in, payloads, WithinLimits}
@@ -122,7 +122,7 @@ Discards q buffered xs m n =
 -- ours discards the same in both orders: the message that is begun anew, and nothing
 runs : (Discards ours 32 starts_again 8 8 × Discards ours 20 starts_before 0 0) × Discards always_tested 32 starts_again 16 8
     × Discards own_twice 20 starts_before 12 0 × Discards meets_first 20 starts_before 8 0
-unfolding answers_of in_turn calls_of others get total discarded locally added bytes_of_all displaced fate full admitted weighed over overlaps without ending continued result after_test flagged bits_of_all held_after put T.added_channel payload_bytes pasted follows continues following
+unfolding answers_of in_turn calls_of others get total discarded locally added bytes_of_all displaced fate full admitted weighed over overlaps without ending continued result_of after_test flagged bits_of_all held_after put T.added_channel payload_bytes pasted follows continues following
 runs = (((refl, refl), (refl, refl)), (refl, refl), (refl, refl), (refl, refl))
 
 -- ## So demand 3 is not theirs

@@ -3,7 +3,7 @@ ghost use Rattle.std.specs.Prelude.{◌≡◌, cond, List, ℕ, ◌≤◌};
 ghost use Rattle.types.specs.Types.{longest_payload, most_buffered_bits};
 ghost use Rattle.types.specs.declared.PartialSequenceKind.{PartialSequenceKind};
 ghost use Rattle.bunch_judging.specs.Results.{is_overlapping, cause_kind, limit_of, refused, turned_away, broken, failed, accepted};
-ghost use Rattle.bunch_judging.specs.Results.{result};
+ghost use Rattle.bunch_judging.specs.Results.{result_of};
 ghost use Rattle.bunch_judging.specs.Standings.{held_of, standing_bits, displaced_bits};
 ghost use Rattle.bunch_judging.specs.Held.{fragment_of};
 
@@ -13,7 +13,7 @@ use crate::{Fate, PartialBunchResult, PartialDiscardCause, PartialResourceLimit,
 use types::{PartialSequenceKind, RawBunchHeader};
 
 fn bits_of(held: Standing) -> u64
-    ensures* { λ r. ⌜ r ≡ standing_bits held ⌝ }
+    ensures { result ≡ standing_bits held }
 {
     match held {
         Standing::Nothing => 0,
@@ -28,7 +28,7 @@ fn bits_of(held: Standing) -> u64
 
 fn displaced_bits(fate: Fate, initial: bool, held: u64, bits: u64) -> u64
     requires { (held ≤ most_buffered_bits) × (bits ≤ longest_payload) }
-    ensures* { λ r. ⌜ r ≡ displaced_bits fate initial held bits ⌝ }
+    ensures { result ≡ displaced_bits fate initial held bits }
 {
     match fate {
         Fate::TurnedAway => 0,
@@ -45,7 +45,7 @@ fn displaced_bits(fate: Fate, initial: bool, held: u64, bits: u64) -> u64
 }
 
 fn is_overlapping(kind: PartialSequenceKind) -> bool
-    ensures* { λ r. ⌜ r ≡ is_overlapping kind ⌝ }
+    ensures { result ≡ is_overlapping kind }
 {
     match kind {
         PartialSequenceKind::None => false,
@@ -57,7 +57,7 @@ fn is_overlapping(kind: PartialSequenceKind) -> bool
 }
 
 fn kind_of(cause: PartialDiscardCause) -> PartialSequenceKind
-    ensures* { λ r. ⌜ r ≡ cause_kind cause ⌝ }
+    ensures { result ≡ cause_kind cause }
 {
     match cause {
         PartialDiscardCause::Sequence(kind) => kind,
@@ -66,7 +66,7 @@ fn kind_of(cause: PartialDiscardCause) -> PartialSequenceKind
 }
 
 fn limit_of(cause: PartialDiscardCause) -> PartialResourceLimit
-    ensures* { λ r. ⌜ r ≡ limit_of cause ⌝ }
+    ensures { result ≡ limit_of cause }
 {
     match cause {
         PartialDiscardCause::Sequence(_) => PartialResourceLimit::None,
@@ -82,7 +82,7 @@ fn refused(
     discarded: u64,
     errors: u32,
 ) -> PartialBunchResult
-    ensures* { λ r. ⌜ r ≡ refused header limit kind overlapping discarded errors ⌝ }
+    ensures { result ≡ refused header limit kind overlapping discarded errors }
 {
     PartialBunchResult {
         header,
@@ -98,7 +98,7 @@ fn refused(
 }
 
 fn turned_away(header: RawBunchHeader, bits: u64) -> PartialBunchResult
-    ensures* { λ r. ⌜ r ≡ turned_away header bits ⌝ }
+    ensures { result ≡ turned_away header bits }
 {
     let kind = header.partial_error_kind;
     let limit = PartialResourceLimit::ActiveStates;
@@ -107,7 +107,7 @@ fn turned_away(header: RawBunchHeader, bits: u64) -> PartialBunchResult
 }
 
 fn broken(kind: PartialSequenceKind, header: RawBunchHeader, discarded: u64) -> PartialBunchResult
-    ensures* { λ r. ⌜ r ≡ broken kind header discarded ⌝ }
+    ensures { result ≡ broken kind header discarded }
 {
     let limit = PartialResourceLimit::None;
     let flagged = erring(kind, header);
@@ -121,7 +121,7 @@ fn failed(
     discarded: u64,
     errors: u32,
 ) -> PartialBunchResult
-    ensures* { λ r. ⌜ r ≡ failed cause header discarded errors ⌝ }
+    ensures { result ≡ failed cause header discarded errors }
 {
     let limit = limit_of(cause);
     let refusal = kind_of(cause);
@@ -138,7 +138,7 @@ fn accepted(
     discarded: u64,
     errors: u32,
 ) -> PartialBunchResult
-    ensures* { λ r. ⌜ r ≡ accepted h zero done discarded errors ⌝ }
+    ensures { result ≡ accepted h zero done discarded errors }
 {
     let kind = h.partial_error_kind;
     let header = flagged(h.has_partial_error, kind, h.is_partial_completed | done, h);
@@ -157,7 +157,7 @@ fn accepted(
 }
 
 fn unless(zero: bool, kind: PartialSequenceKind) -> PartialSequenceKind
-    ensures* { λ r. ⌜ r ≡ cond zero PartialSequenceKind.None kind ⌝ }
+    ensures { result ≡ cond zero PartialSequenceKind.None kind }
 {
     if zero {
         return PartialSequenceKind::None;
@@ -168,7 +168,7 @@ fn unless(zero: bool, kind: PartialSequenceKind) -> PartialSequenceKind
 // The limits keep every sum small.
 pub fn result(fate: Fate, held: Standing, header: RawBunchHeader, bits: u64) -> PartialBunchResult
     requires { (standing_bits held ≤ most_buffered_bits) × (bits ≤ longest_payload) }
-    ensures* { λ r. ⌜ ((words bytes payload : List ℕ) → r ≡ result fate (held_of held words bytes) (fragment_of header bits payload)) ⌝ }
+    ensures { (words bytes payload : List ℕ) → result ≡ result_of fate (held_of held words bytes) (fragment_of header bits payload) }
 {
     let gone = displaced_bits(fate, header.b_partial_initial, bits_of(held), bits);
     let errors = overlaps(held, header.b_partial_initial) as u32;

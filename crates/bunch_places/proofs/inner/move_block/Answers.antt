@@ -6,5 +6,4 @@ use Rattle.bunch_places.proofs.inner.move_block.Goals as goal
 
 pub returns : goal.returns
 returns c =
-    let x = s.before.before.before.before in
-    by_block x.args.from x.args.to 256 x.args.arena.now _ (search rules) (omega arith) c.copy_by_bytes.ensures c.copy_by_bytes-2.ensures
+    by_block c.args.from c.args.to 256 c.args.arena.now _ (search rules) (omega arith) c.copy_by_bytes.ensures c.copy_by_bytes-2.ensures

@@ -12,7 +12,7 @@ use Rattle.bunch_judging.specs.declared.Fate.{Fate}
 use Rattle.bunch_judging.specs.Held.{Held, Fragment}
 use Rattle.bunch_judging.specs.Headers.{after_test}
 use Rattle.bunch_judging.specs.Messages.{displaced, bits_of_all}
-use Rattle.bunch_judging.specs.Results.{overlap_errors, accepted, result}
+use Rattle.bunch_judging.specs.Results.{overlap_errors, accepted, result_of}
 use Rattle.bunch_judging.specs.Standings.{held_of}
 use Rattle.bunch_judging.proofs.Displacing.{held_bits, at_most, displaced_bits}
 use Rattle.bunch_judging.proofs.inner.results.result.Statement.{statement}
@@ -56,17 +56,17 @@ add-failed-2 : tie.Need-overflow-add-failed-2
 add-failed-2 c = record { fits = one_more c.before.before.before.before.overlaps.result }
 
 returns : tie.Need-returns
-unfolding result
+unfolding result_of
 returns c words bytes payload = rw c.before.enum_told.given.1 c.turned_away.ensures
 
 returns-2 : tie.Need-returns-2
-unfolding result
+unfolding result_of
 returns-2 c words bytes payload =
     let e = c.before.before.fate.given.1 in
     rw (e, ← (gone c.before.before.before.before words bytes payload _ e)) c.broken.ensures
 
 returns-3 : tie.Need-returns-3
-unfolding result
+unfolding result_of
 returns-3 c words bytes payload =
     let s = c.before.before.before.before in
     let e = c.before.before.fate2.given.1 in
@@ -74,19 +74,19 @@ returns-3 c words bytes payload =
     c.failed.ensures
 
 returns-4 : tie.Need-returns-4
-unfolding result
+unfolding result_of
 returns-4 c words bytes payload =
     let e = c.before.enum-told2.given.1 in
     rw (e, ← (joins c.before.before.before words bytes payload Fate.Joins e false)) c.accepted.ensures
 
 returns-5 : tie.Need-returns-5
-unfolding result
+unfolding result_of
 returns-5 c words bytes payload =
     let e = c.before.enum-told3.given.1 in
     rw (e, ← (joins c.before.before.before words bytes payload Fate.Finishes e true)) c.accepted2.ensures
 
 returns-6 : tie.Need-returns-6
-unfolding result
+unfolding result_of
 returns-6 c words bytes payload =
     let e = c.before.enum-told4.given.1 in
     rw (e, ← (joins c.before.before.before words bytes payload Fate.Falls e false)) c.accepted3.ensures
