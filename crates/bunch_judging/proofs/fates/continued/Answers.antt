@@ -16,7 +16,7 @@ returns-then-not-follows c words bytes =
       c.in-Message.is,
       c.if-finished.false,
       ← c.follows.ensures,
-      not-true c.follows.result c.if-not-follows.true,
+      c.if-not-follows.true,
     )
     refl
 
@@ -31,6 +31,6 @@ returns-else-not-follows c words bytes =
       c.in-Message.is,
       c.if-finished.false,
       ← c.follows.ensures,
-      not-false c.follows.result c.if-not-follows.false,
+      c.if-not-follows.false,
     )
     c.admitted.ensures

@@ -12,10 +12,10 @@ use Rattle.bunch_judging.proofs.Telling.{initial_fails, empty_falls, falls}
 use Rattle.bunch_judging.proofs.inner.displacement.displaced.Goals.{Start}
 use Rattle.bunch_judging.proofs.inner.displacement.displaced.Goals as goal
 
-abbrev held : tie.Start → List ℕ → Found Held
+abbrev held : Start → List ℕ → Found Held
 held s bytes = held_of s.args.held s.args.words bytes
 
-abbrev fragment : tie.Start → List ℕ → Fragment
+abbrev fragment : Start → List ℕ → Fragment
 fragment s payload = record { header = s.args.header; bits = s.args.bits; payload = payload }
 
 pub returns-then-header : goal.returns-then-header

@@ -6,8 +6,8 @@ pub returns : goal.returns
 returns c bytes payload =
     let words = c.args.words in
     rw (
-      ← (c.after_test_lem.ensures words bytes),
+      ← (c.after_test-h.ensures words bytes),
       ← c.or_overlapping.ensures,
-      ← (c.Joined-by.ensures.0 words bytes),
+      ← (c.joined_by-joins.ensures.0 words bytes),
     )
     (c.joined.ensures bytes payload)
