@@ -1,5 +1,6 @@
 // The accumulator's state in lent memory, and the test of it: vrf-net/src/bunch.rs's `PartialBunchAccumulator` without its calls.
 #![tactic(auto)]
+
 pub mod inner;
 
 // The limits, and what is held now: the Rust's fields without its map, which is lent.

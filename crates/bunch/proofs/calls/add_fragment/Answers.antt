@@ -9,14 +9,14 @@ use Rattle.bunch.proofs.calls.add_fragment.Goals as goal
 
 pub returns-in-Sound : goal.returns-in-Sound
 returns-in-Sound c =
-    let a = c.before.before.before.before.before.before.before.before.before.before.before.before.before.before.before.before.before.before.before.before.before.before.before.before.args in
+    let a = c.args in
     let m = held_memory a.channels.now a.places.now a.arena.now in
     let f = adding (record { header = a.header; bits = a.bits; payload = a.payload.now }) in
     rw c.added.ensures (goes a.a m a.ch_index f a.output.now (passed _ _ _ (sym c.pass-checked.ensures ∙ c.in-Sound.is)) c.add_fragment-outcome.ensures)
 
 pub returns-in-Unsound : goal.returns-in-Unsound
 returns-in-Unsound c =
-    let a = c.before.before.before.before.before.before.before.before.before.before.before.args in
+    let a = c.args in
     let m = held_memory a.channels.now a.places.now a.arena.now in
     let f = adding (record { header = a.header; bits = a.bits; payload = a.payload.now }) in
     rw c.unsound.ensures (ten a.a m a.ch_index f a.output.now (sym c.pass-checked.ensures ∙ c.in-Unsound.is))

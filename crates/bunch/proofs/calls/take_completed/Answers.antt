@@ -9,13 +9,13 @@ use Rattle.bunch.proofs.calls.take_completed.Goals as goal
 pub returns-in-Sound : goal.returns-in-Sound
 unfolding locally local
 returns-in-Sound c =
-    let a = c.before.before.before.before.before.before.before.before.before.before.before.before.before.before.before.before.before.before.before.before.before.before.before.args in
+    let a = c.args in
     let m = held_memory a.channels.now a.places.now a.arena.now in
     rw c.taken.ensures (goes a.a m a.ch_index taking a.output.now (passed _ _ _ (sym c.pass-checked.ensures ∙ c.in-Sound.is)) c.take_completed-given.ensures)
 
 pub returns-in-Unsound : goal.returns-in-Unsound
 returns-in-Unsound c =
-    let a = c.before.before.before.before.before.before.before.before.before.before.args in
+    let a = c.args in
     let m = held_memory a.channels.now a.places.now a.arena.now in
     rw c.refused.ensures (ten a.a m a.ch_index taking a.output.now (sym c.pass-checked.ensures ∙ c.in-Unsound.is))
 

@@ -29,7 +29,7 @@ pub returns-then-not-place_sound : goal.returns-then-not-place_sound
 returns-then-not-place_sound c =
     let l = c.loop-i in
     let a = c.args in
-    let s = sym c.place_sound.ensures ∙ not-true c.place_sound.result c.if-not-place_sound.true in
+    let s = sym c.place_sound.ensures ∙ c.if-not-place_sound.true in
     rw (l.invariant.4 ∙ one_unsound a.places.now a.arena.now a.live l.i l.start l.left (omega arith) (omega arith) c.if-left-bits.false s)
 
 pub loop-i-preserved : goal.loop-i-preserved
@@ -38,7 +38,7 @@ loop-i-preserved c =
     let a = c.args in
     let t = turn a.places.now a.live l.i (omega arith) (omega arith) in
     let e = c.bytes_of-start.ensures in
-    let s = sym c.place_sound.ensures ∙ not-false c.place_sound.result c.if-not-place_sound.false in
+    let s = sym c.place_sound.ensures ∙ c.if-not-place_sound.false in
     let on = one_sound a.places.now a.arena.now a.live l.i l.start l.left (omega arith) (omega arith) c.if-left-bits.false (l.i + 1) (l.start + c.bytes_of-start.result) (omega arith) (omega arith) s in
     (omega arith, omega arith, omega arith, omega (arith, t.more), l.invariant.4 ∙ on)
 

@@ -7,6 +7,6 @@ use Rattle.bunch_held.proofs.inner.words_sound.Goals as goal
 
 pub returns : goal.returns
 returns c =
-    let p = c.args.t1 in
+    let p = c.args.p in
     let h : length p ≡ 24 = search rules in
     rw (eq-eqb (length p) 24 h)

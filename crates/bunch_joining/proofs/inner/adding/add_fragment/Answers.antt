@@ -23,39 +23,39 @@ returns-then-payload-bytes_of c =
 
 pub meet-met-requires : goal.meet-met-requires
 meet-met-requires c =
-    let a = c.before.before.before.before.before.before.before.before.before.before.args in
+    let a = c.args in
     let m = held_memory a.channels.now a.places.now a.arena.now in
-    meetable a.a m a.used c.before.before.before.before.before.before.before.before.before.before.requires a.ch_index _ (sym c.find.ensures) a.bits c.if1.false
+    meetable a.a m a.used c.requires a.ch_index _ (sym c.find-slot.ensures) a.bits c.if-bits-gt-MAX_PAYLOAD_BITS.false
 
 pub weigh-w-requires : goal.weigh-w-requires
 weigh-w-requires c =
-    let a = c.before.before.before.before.before.before.before.before.before.before.before.args in
+    let a = c.args in
     let m = held_memory a.channels.now a.places.now a.arena.now in
-    (meets_few a.a a.places.now c.find.result a.header.b_partial_initial a.bits c.meet-met.result (meetable a.a m a.used c.before.before.before.before.before.before.before.before.before.before.before.requires a.ch_index c.find.result (sym c.find.ensures) a.bits c.if1.false) c.meet-met.ensures).0
+    (meets_few a.a a.places.now c.find-slot.result a.header.b_partial_initial a.bits c.meet-met.result (meetable a.a m a.used c.requires a.ch_index c.find-slot.result (sym c.find-slot.ensures) a.bits c.if-bits-gt-MAX_PAYLOAD_BITS.false) c.meet-met.ensures).0
 
 pub result-answered-requires : goal.result-answered-requires
 result-answered-requires c =
-    let a = c.before.before.before.before.before.before.before.before.before.before.before.before.args in
+    let a = c.args in
     let m = held_memory a.channels.now a.places.now a.arena.now in
-    ((meets_few a.a a.places.now c.find.result a.header.b_partial_initial a.bits c.meet-met.result (meetable a.a m a.used c.before.before.before.before.before.before.before.before.before.before.before.before.requires a.ch_index c.find.result (sym c.find.ensures) a.bits c.if1.false) c.meet-met.ensures).1, c.if1.false)
+    ((meets_few a.a a.places.now c.find-slot.result a.header.b_partial_initial a.bits c.meet-met.result (meetable a.a m a.used c.requires a.ch_index c.find-slot.result (sym c.find-slot.ensures) a.bits c.if-bits-gt-MAX_PAYLOAD_BITS.false) c.meet-met.ensures).1, c.if-bits-gt-MAX_PAYLOAD_BITS.false)
 
 pub add_held-requires : goal.add_held-requires
 add_held-requires c = (
-  c.before.before.before.before.before.before.before.before.before.before.before.before.before.before.before.before.before.before.before.before.requires,
-  sym c.find.ensures ∙ c.in-At.is,
-  c.if1.false,
-  rw c.bytes_of.ensures at c.if2.false,
-  met_at c.before.before.before.before.before.before.before.before.before.before.before.before.before.before.before.before.before.before.before.before.args.a c.before.before.before.before.before.before.before.before.before.before.before.before.before.before.before.before.before.before.before.before.args.places.now c.before.before.before.before.before.before.before.before.before.before.before.before.before.before.before.before.before.before.before.before.args.header.b_partial_initial c.before.before.before.before.before.before.before.before.before.before.before.before.before.before.before.before.before.before.before.before.args.bits c.meet-met.result c.in-At.is c.meet-met.ensures,
+  c.requires,
+  sym c.find-slot.ensures ∙ c.in-At.is,
+  c.if-bits-gt-MAX_PAYLOAD_BITS.false,
+  rw c.bytes_of.ensures at c.if-payload-bytes_of.false,
+  met_at c.args.a c.args.places.now c.args.header.b_partial_initial c.args.bits c.meet-met.result c.in-At.is c.meet-met.ensures,
   weighs c.weigh-w.ensures c.result-answered.ensures,
 )
 
 pub add_free-requires : goal.add_free-requires
 add_free-requires c = (
-  c.before.before.before.before.before.before.before.before.before.before.before.before.before.before.before.before.before.before.before.before.requires,
-  sym c.find.ensures ∙ c.in-Free.is,
-  c.if1.false,
-  rw c.bytes_of.ensures at c.if2.false,
-  met_at c.before.before.before.before.before.before.before.before.before.before.before.before.before.before.before.before.before.before.before.before.args.a c.before.before.before.before.before.before.before.before.before.before.before.before.before.before.before.before.before.before.before.before.args.places.now c.before.before.before.before.before.before.before.before.before.before.before.before.before.before.before.before.before.before.before.before.args.header.b_partial_initial c.before.before.before.before.before.before.before.before.before.before.before.before.before.before.before.before.before.before.before.before.args.bits c.meet-met.result c.in-Free.is c.meet-met.ensures,
+  c.requires,
+  sym c.find-slot.ensures ∙ c.in-Free.is,
+  c.if-bits-gt-MAX_PAYLOAD_BITS.false,
+  rw c.bytes_of.ensures at c.if-payload-bytes_of.false,
+  met_at c.args.a c.args.places.now c.args.header.b_partial_initial c.args.bits c.meet-met.result c.in-Free.is c.meet-met.ensures,
   weighs c.weigh-w.ensures c.result-answered.ensures,
 )
 

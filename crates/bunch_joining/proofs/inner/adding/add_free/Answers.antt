@@ -38,20 +38,20 @@ put_payload-requires c =
 
 pub settle_free-left-requires : goal.settle_free-left-requires
 settle_free-left-requires c =
-    let a = c.before.before.before.before.before.before.before.before.before.before.before.before.before.before.before.before.before.before.args in
-    let q = c.before.before.before.before.before.before.before.before.before.before.before.before.before.before.before.before.before.before.requires in
+    let a = c.args in
+    let q = c.requires in
     let m = held_memory a.channels.now a.places.now a.arena.now in
     let f : Fragment = record { header = a.header; bits = a.bits; payload = a.payload.now } in
-    lacks a.a m a.used q.0 a.ch_index a.i q.1 f q.2 q.3 a.met q.4 a.w a.answered q.5 c.sequence_of-sequence.result c.sequence_of-sequence.ensures c.start_of_lem.result c.start_of_lem.ensures
+    lacks a.a m a.used q.0 a.ch_index a.i q.1 f q.2 q.3 a.met q.4 a.w a.answered q.5 c.sequence_of-sequence.result c.sequence_of-sequence.ensures c.start_of-start.result c.start_of-start.ensures
 
 pub returns : goal.returns
 returns c =
-    let a = c.before.before.before.before.before.before.before.before.before.before.before.before.before.before.before.before.before.before.before.before.before.before.before.before.args in
-    let q = c.before.before.before.before.before.before.before.before.before.before.before.before.before.before.before.before.before.before.before.before.before.before.before.before.requires in
+    let a = c.args in
+    let q = c.requires in
     let m = held_memory a.channels.now a.places.now a.arena.now in
     let f : Fragment = record { header = a.header; bits = a.bits; payload = a.payload.now } in
-    gives_judged a.a m a.used q.0 a.ch_index a.i q.1 f q.2 q.3 a.met q.4 a.w a.answered q.5 c.sequence_of-sequence.result c.sequence_of-sequence.ensures c.start_of_lem.result c.start_of_lem.ensures a.output.now
-    (omega (arith, c.if1.false, c.bytes_of.ensures)) c.put_payload.ensures
+    gives_judged a.a m a.used q.0 a.ch_index a.i q.1 f q.2 q.3 a.met q.4 a.w a.answered q.5 c.sequence_of-sequence.result c.sequence_of-sequence.ensures c.start_of-start.result c.start_of-start.ensures a.output.now
+    (omega (arith, c.if-output-needed.false, c.bytes_of-needed.ensures)) c.put_payload.ensures
     (tells c.displaced.result (displaced a.w.fate none f) (result_none a.a m a.used q.0 a.ch_index a.i q.1 f q.2 q.3 a.met q.4 a.w a.answered q.5) (c.displaced.ensures [] a.payload.now))
     c.settle_free-left.ensures
 
@@ -59,4 +59,4 @@ pub displaced-requires : goal.displaced-requires
 displaced-requires c = (omega arith, c.requires.2)
 
 pub start_of-start-requires : goal.start_of-start-requires
-start_of-start-requires c = let q = c.before.before.before.before.before.before.before.before.before.before.before.before.requires in start_asks _ _ q.0.stands _ (place_free _ _ q.0.stands _ _ q.1)
+start_of-start-requires c = let q = c.requires in start_asks _ _ q.0.stands _ (place_free _ _ q.0.stands _ _ q.1)

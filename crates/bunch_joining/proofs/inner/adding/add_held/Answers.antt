@@ -42,38 +42,38 @@ returns-then-output-needed c =
 
 pub displaced_at-gone-requires : goal.displaced_at-gone-requires
 displaced_at-gone-requires c =
-    let q = c.before.before.before.before.before.before.before.before.before.before.before.requires in
+    let q = c.requires in
     let g = spot _ _ _ q.0 _ _ q.1 in
     (q.5.effect_is, omega (arith, g), omega (arith, g, q.4.bits_are), q.2)
 
 pub show-requires : goal.show-requires
 show-requires c =
-    let a = c.before.before.before.before.before.before.before.before.before.before.before.before.before.before.args in
-    let q = c.before.before.before.before.before.before.before.before.before.before.before.before.before.before.requires in
+    let a = c.args in
+    let q = c.requires in
     let m = held_memory a.channels.now a.places.now a.arena.now in
     let f : Fragment = record { header = a.header; bits = a.bits; payload = a.payload.now } in
     let few = few_shown a.a m a.used q.0 a.ch_index a.i q.1 f q.2 q.3 a.met q.4 a.w a.answered q.5 in
     let g = spot a.a m a.used q.0 a.ch_index a.i q.1 in
-    (omega (arith, few.1, g, c.start_of_lem.ensures), omega (arith, few.0, q.3), omega (arith, c.if1.false, c.bytes_of.ensures))
+    (omega (arith, few.1, g, c.start_of-start.ensures), omega (arith, few.0, q.3), omega (arith, c.if-output-needed.false, c.bytes_of.ensures))
 
 pub settle_held-left-requires : goal.settle_held-left-requires
 settle_held-left-requires c =
-    let a = c.before.before.before.before.before.before.before.before.before.before.before.before.before.before.before.before.before.before.before.before.before.before.args in
-    let q = c.before.before.before.before.before.before.before.before.before.before.before.before.before.before.before.before.before.before.before.before.before.before.requires in
+    let a = c.args in
+    let q = c.requires in
     let m = held_memory a.channels.now a.places.now a.arena.now in
     let f : Fragment = record { header = a.header; bits = a.bits; payload = a.payload.now } in
-    holds a.a m a.used q.0 a.ch_index a.i q.1 f q.2 q.3 a.met q.4 a.w a.answered q.5 c.after_test_lem.result c.after_test_lem.ensures c.sequence_of-sequence.result c.sequence_of-sequence.ensures c.start_of_lem.result c.start_of_lem.ensures
+    holds a.a m a.used q.0 a.ch_index a.i q.1 f q.2 q.3 a.met q.4 a.w a.answered q.5 c.after_test-h.result c.after_test-h.ensures c.sequence_of-sequence.result c.sequence_of-sequence.ensures c.start_of-start.result c.start_of-start.ensures
 
 pub returns : goal.returns
 returns c =
-    let a = c.before.before.before.before.before.before.before.before.before.before.before.before.before.before.before.before.before.before.before.before.before.before.before.before.before.before.before.before.args in
-    let q = c.before.before.before.before.before.before.before.before.before.before.before.before.before.before.before.before.before.before.before.before.before.before.before.before.before.before.before.before.requires in
+    let a = c.args in
+    let q = c.requires in
     let m = held_memory a.channels.now a.places.now a.arena.now in
     let f : Fragment = record { header = a.header; bits = a.bits; payload = a.payload.now } in
-    gives_judged a.a m a.used q.0 a.ch_index a.i q.1 f q.2 q.3 a.met q.4 a.w a.answered q.5 c.after_test_lem.result c.after_test_lem.ensures c.sequence_of-sequence.result c.sequence_of-sequence.ensures c.start_of_lem.result c.start_of_lem.ensures a.output.now
-    (omega (arith, c.if1.false, c.bytes_of.ensures)) c.show.ensures
-    (λ bytes payload. tells c.displaced-at.result (displaced a.w.fate (held_of a.met.standing (drop 4 (get_or a.places.now a.i [])) bytes) (record { header = a.header; bits = a.bits; payload = payload })) (q.5.result-is (drop 4 (get_or a.places.now a.i [])) bytes payload) (c.displaced-at.ensures bytes payload))
+    gives_judged a.a m a.used q.0 a.ch_index a.i q.1 f q.2 q.3 a.met q.4 a.w a.answered q.5 c.after_test-h.result c.after_test-h.ensures c.sequence_of-sequence.result c.sequence_of-sequence.ensures c.start_of-start.result c.start_of-start.ensures a.output.now
+    (omega (arith, c.if-output-needed.false, c.bytes_of.ensures)) c.show.ensures
+    (λ bytes payload. tells c.displaced_at-gone.result (displaced a.w.fate (held_of a.met.standing (drop 4 (get_or a.places.now a.i [])) bytes) (record { header = a.header; bits = a.bits; payload = payload })) (q.5.result-is (drop 4 (get_or a.places.now a.i [])) bytes payload) (c.displaced_at-gone.ensures bytes payload))
     c.settle_held-left.ensures
 
 pub start_of-start-requires : goal.start_of-start-requires
-start_of-start-requires c = let q = c.before.before.before.before.before.before.before.before.requires in let g = spot _ _ _ q.0 _ _ q.1 in start_asks _ _ q.0.stands _ (omega (arith, g.live))
+start_of-start-requires c = let q = c.requires in let g = spot _ _ _ q.0 _ _ q.1 in start_asks _ _ q.0.stands _ (omega (arith, g.live))

@@ -14,11 +14,11 @@ returns-then-output-n c =
 
 pub returns : goal.returns
 returns c =
-    let a = c.before.before.before.before.before.before.before.before.before.before.before.before.before.before.before.before.before.before.before.before.before.before.before.args in
-    let q = c.before.before.before.before.before.before.before.before.before.before.before.before.before.before.before.before.before.before.before.before.before.before.before.requires in
-    let n = c.bytes_of.ensures in
+    let a = c.args in
+    let q = c.requires in
+    let n = c.bytes_of-n.ensures in
     rw c.header_in-header.ensures
-    (gives_message _ _ _ q.0 _ _ q.1 a.output.now (omega (arith, n, c.if1.false)) (rw (n, c.start_of_lem.ensures) at c.copy_bytes.ensures) c.drop_message-left.ensures)
+    (gives_message _ _ _ q.0 _ _ q.1 a.output.now (omega (arith, n, c.if-output-n.false)) (rw (n, c.start_of-start.ensures) at c.copy_bytes.ensures) c.drop_message-left.ensures)
 
 pub offset_bounds-places-i : goal.offset_bounds-places-i
 offset_bounds-places-i c = let q = c.requires in let f = spot _ _ _ q.0 _ _ q.1 in omega (arith, f)
@@ -30,10 +30,10 @@ pub bytes_of-n-requires : goal.bytes_of-n-requires
 bytes_of-n-requires c = let q = c.requires in let f = spot _ _ _ q.0 _ _ q.1 in omega (arith, f)
 
 pub start_of-start-requires : goal.start_of-start-requires
-start_of-start-requires c = let q = c.before.before.before.before.before.before.before.requires in let f = spot _ _ _ q.0 _ _ q.1 in start_asks _ _ q.0.stands _ (omega (arith, f.live))
+start_of-start-requires c = let q = c.requires in let f = spot _ _ _ q.0 _ _ q.1 in start_asks _ _ q.0.stands _ (omega (arith, f.live))
 
 pub copy_bytes-requires : goal.copy_bytes-requires
-copy_bytes-requires c = let q = c.before.before.before.before.before.before.before.before.before.before.requires in let f = spot _ _ _ q.0 _ _ q.1 in (omega (arith, f, c.start_of_lem.ensures, c.bytes_of.ensures), omega (arith, c.if1.false))
+copy_bytes-requires c = let q = c.requires in let f = spot _ _ _ q.0 _ _ q.1 in (omega (arith, f, c.start_of-start.ensures, c.bytes_of-n.ensures), omega (arith, c.if-output-n.false))
 
 pub drop_message-left-requires : goal.drop_message-left-requires
-drop_message-left-requires c = let q = c.before.before.before.before.before.before.before.before.before.before.before.before.before.before.before.before.requires in record { sound = q.0; slot = q.1; start_is = c.start_of_lem.ensures }
+drop_message-left-requires c = let q = c.requires in record { sound = q.0; slot = q.1; start_is = c.start_of-start.ensures }

@@ -5,13 +5,13 @@ use Rattle.packet_tracking.proofs.inner.partials.continuing.Goals as goal
 
 pub returns-then-not-continues : goal.returns-then-not-continues
 returns-then-not-continues c =
-    rw (c.in-InFlight.is, ← c.continues.ensures, not-true c.continues.result c.if-not-continues.true)
+    rw (c.in-InFlight.is, ← c.continues.ensures, c.if-not-continues.true)
     c.ruled-then-not-continues.ensures
 
 pub returns-then-last : goal.returns-then-last
 returns-then-last c =
     rw
-    (c.in-InFlight.is, ← c.continues.ensures, not-false c.continues.result c.if-not-continues.false, c.if-last.true)
+    (c.in-InFlight.is, ← c.continues.ensures, c.if-not-continues.false, c.if-last.true)
     c.ruled-then-last.ensures
 
 pub returns-in-Nothing : goal.returns-in-Nothing
@@ -20,5 +20,5 @@ returns-in-Nothing c = rw c.in-Nothing.is c.ruled.ensures
 pub returns-else-last : goal.returns-else-last
 returns-else-last c =
     rw
-    (c.in-InFlight.is, ← c.continues.ensures, not-false c.continues.result c.if-not-continues.false, c.if-last.false)
+    (c.in-InFlight.is, ← c.continues.ensures, c.if-not-continues.false, c.if-last.false)
     c.ruled-in-InFlight.ensures

@@ -13,8 +13,8 @@ use Rattle.bunch_held.specs.Calls.{tested}
 use Rattle.bunch_held.proofs.Soundness.{counted, Counts, counts, stands}
 use Rattle.bunch_held.proofs.Holding.{used_is}
 use borrow.Author.Rules.{rules}
-use Rattle.bunch_held.proofs.inner.pass.Statement.{statement}
-use Rattle.bunch_held.proofs.inner.pass.Tie as tie
+use Rattle.bunch_held.proofs.inner.pass.Goals.{After-places_sound, Else-ordered, Then-fits-active}
+use Rattle.bunch_held.proofs.inner.pass.Goals as goal
 
 module _ (a : Accumulator) (m : HeldMemory) where
   places_decide : counted a m ≡ true → ascending (take a.active m.channels) ≡ true
@@ -39,45 +39,40 @@ module _ (a : Accumulator) (m : HeldMemory) where
   miscounted c = rw c
 
 -- the first test, on the numbers
-fits : (c : tie.Then1) → let a = c.before.before.before.before.before.before.args in
+fits : (c : Then-fits-active) → let a = c.args in
     counted a.a (held_memory a.channels.now a.places.now a.arena.now) ≡ true
 unfolding fit
-fits c = rw c.before.before.before.fitting.ensures at c.if1.true
+fits c = rw c.fitting-fits.ensures at c.if-fits-active.true
 
-shown : (c : tie.Then1) → let a = c.before.before.before.before.before.before.args in
+shown : (c : Then-fits-active) → let a = c.args in
     Counts a.a (held_memory a.channels.now a.places.now a.arena.now)
 shown c =
-    let a = c.before.before.before.before.before.before.args in
+    let a = c.args in
     counts a.a (held_memory a.channels.now a.places.now a.arena.now) (fits c)
 
-ascending-requires : tie.Need-ascending-requires
-ascending-requires c κs =
-    let s = shown c in
-    let a = c.before.before.before.before.before.before.args in
+pub ascending-ordered-requires : goal.ascending-ordered-requires
+ascending-ordered-requires c =
+    let s = shown (goal.at.ascending-ordered-requires c).Then-fits-active in
+    let a = c.args in
     let within : a.a.active ≤ length a.channels.now = omega (arith, s) in
     within
 
-places-sound-requires : tie.Need-places-sound-requires
-places-sound-requires c κs = let s = shown c.before.before in (omega (arith, s), omega (arith, s), omega (arith, s), omega (arith, s))
+pub places_sound-requires : goal.places_sound-requires
+places_sound-requires c = let s = shown (goal.at.places_sound-requires c).Then-fits-active in (omega (arith, s), omega (arith, s), omega (arith, s), omega (arith, s))
 
-returns : tie.Need-returns
-returns c =
-    let t = c.before.before.before in
-    let a = t.before.before.before.before.before.before.args in
-    rw c.places_are_sound.ensures
-    (places_decide a.a (held_memory a.channels.now a.places.now a.arena.now) (fits t) (sym c.before.before.ascending.ensures ∙ c.before.if2.true))
+pub returns-then-ordered : goal.returns-then-ordered
+returns-then-ordered c =
+    let a = c.args in
+    rw c.places_sound.ensures
+    (places_decide a.a (held_memory a.channels.now a.places.now a.arena.now) (fits (goal.at.returns-then-ordered (goal.at.returns-then-ordered c).After-places_sound).Then-fits-active) (sym c.ascending-ordered.ensures ∙ c.if-ordered.true))
 
-returns-2 : tie.Need-returns-2
-returns-2 c =
-    let t = c.before.before in
-    let a = t.before.before.before.before.before.before.args in
-    disorder a.a (held_memory a.channels.now a.places.now a.arena.now) (fits t) (sym c.before.ascending.ensures ∙ c.if2.false)
+pub returns-else-ordered : goal.returns-else-ordered
+returns-else-ordered c =
+    let a = c.args in
+    disorder a.a (held_memory a.channels.now a.places.now a.arena.now) (fits (goal.at.returns-else-ordered (goal.at.returns-else-ordered c).Else-ordered).Then-fits-active) (sym c.ascending-ordered.ensures ∙ c.if-ordered.false)
 
-returns-3 : tie.Need-returns-3
+pub returns-else-fits-active : goal.returns-else-fits-active
 unfolding fit
-returns-3 c =
-    let a = c.before.before.before.before.before.before.args in
-    miscounted a.a (held_memory a.channels.now a.places.now a.arena.now) (rw c.before.before.before.fitting.ensures at c.if1.false)
-
-pub pass_spec : {M : Type 1} → statement M
-pass_spec = tie.close (tie.spec (λ c κs. search rules) ascending-requires places-sound-requires returns returns-2 returns-3)
+returns-else-fits-active c =
+    let a = c.args in
+    miscounted a.a (held_memory a.channels.now a.places.now a.arena.now) (rw c.fitting-fits.ensures at c.if-fits-active.false)

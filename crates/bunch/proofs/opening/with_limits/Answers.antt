@@ -8,8 +8,7 @@ use Rattle.bunch_held.specs.Memory.{HeldMemory, held_memory}
 use Rattle.bunch_held.specs.Sound.{fit}
 use Rattle.bunch.specs.Opening.{holding_nothing, opened_accumulator}
 use borrow.Author.Rules.{rules}
-use Rattle.bunch.proofs.opening.with_limits.Statement.{statement}
-use Rattle.bunch.proofs.opening.with_limits.Tie as tie
+use Rattle.bunch.proofs.opening.with_limits.Goals as goal
 
 module _ (active buffered : ℕ) (m : HeldMemory) {r : Bool} (tests : r ≡ fit active buffered m) where
   fits : r ≡ true → value (holding_nothing active buffered) ≡ opened_accumulator active buffered m
@@ -20,17 +19,14 @@ module _ (active buffered : ℕ) (m : HeldMemory) {r : Bool} (tests : r ≡ fit 
   unfolding opened_accumulator
   nine e = rw (sym tests ∙ e)
 
-returns : tie.Need-returns
+pub returns-then-fitting : goal.returns-then-fitting
+unfolding fit
+returns-then-fitting c =
+    let a = c.args in
+    fits a.max-active a.max-buffered-bits (held_memory a.channels.now a.places.now a.arena.now) c.fitting.ensures c.if-fitting.true
+
+pub returns : goal.returns
 unfolding fit
 returns c =
-    let a = c.before.before.before.before.args in
-    fits a.max-active a.max-buffered-bits (held_memory a.channels.now a.places.now a.arena.now) c.before.fitting.ensures c.if1.true
-
-returns-2 : tie.Need-returns-2
-unfolding fit
-returns-2 c =
-    let a = c.before.before.before.before.args in
-    nine a.max-active a.max-buffered-bits (held_memory a.channels.now a.places.now a.arena.now) c.before.fitting.ensures c.if1.false
-
-pub with-limits-spec : {M : Type 1} → statement M
-with-limits-spec = tie.close (tie.spec (λ c κs. search rules) returns returns-2)
+    let a = c.args in
+    nine a.max-active a.max-buffered-bits (held_memory a.channels.now a.places.now a.arena.now) c.fitting.ensures c.if-fitting.false
