@@ -1,6 +1,7 @@
 // A fragment is added and a message handed out, on memory that was tested: a program that tested it once can go on with what each
 // call leaves.
 #![tactic(auto)]
+
 use bunch_held::{Accumulator, BunchError};
 use bunch_judging::{Displacement, PartialBunchResult};
 use types::RawBunchHeader;

@@ -8,4 +8,4 @@ use Rattle.bunch_settling.proofs.inner.messages.words_of.Goals as goal
 
 pub returns : goal.returns
 unfolding words_from
-returns c = let n : length c.args.t1 ≡ 24 = search rules in words_rest 20 4 c.args.t1 (omega (arith, n))
+returns c = let n : length c.args.p ≡ 24 = search rules in words_rest 20 4 c.args.p (omega (arith, n))
