@@ -20,13 +20,13 @@ pub returns-in-Free : goal.returns-in-Free
 returns-in-Free c = rw c.in-Free.is c.meet_nothing.ensures
 
 pub offset_bounds-places-i : goal.offset_bounds-places-i
-offset_bounds-places-i c = let q = asked _ _ _ c.in-At.is c.requires in omega (arith, q)
+offset_bounds-places-i c = let q = asked c.args.a c.args.places.now c.args.bits c.in-At.is c.requires in omega (arith, q)
 
 pub bounds-places-i : goal.bounds-places-i
-bounds-places-i c = (asked _ _ _ c.in-At.is c.requires).0
+bounds-places-i c = (asked c.args.a c.args.places.now c.args.bits c.in-At.is c.requires).0
 
 pub meet_held-requires : goal.meet_held-requires
-meet_held-requires c = (asked _ _ _ c.in-At.is c.requires).1
+meet_held-requires c = (asked c.args.a c.args.places.now c.args.bits c.in-At.is c.requires).1
 
 pub meet_nothing-requires : goal.meet_nothing-requires
-meet_nothing-requires c = asked _ _ _ c.in-Free.is c.requires
+meet_nothing-requires c = asked c.args.a c.args.places.now c.args.bits c.in-Free.is c.requires

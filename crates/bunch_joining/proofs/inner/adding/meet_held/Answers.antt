@@ -9,7 +9,7 @@ pub passed-requires : goal.passed-requires
 passed-requires c =
     let a = c.args in
     let q = c.requires in
-    (joins_few a.initial (bits_in_place a.t2) c.kept-joins.ensures, q.1, q.2, q.3)
+    (joins_few a.initial (bits_in_place a.p) c.kept-joins.ensures, q.1, q.2, q.3)
 
 pub returns : goal.returns
 returns c =
