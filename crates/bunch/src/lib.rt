@@ -1,6 +1,7 @@
 // The accumulator's public calls: vrf-net/src/bunch.rs's `PartialBunchAccumulator` over lent memory. `opening` opens one and tells its
 // counts, `calls` has those on a channel, `drains` the one on all.
 #![tactic(auto)]
+
 use bunch_held::{Accumulator, BunchError};
 
 pub mod calls;

@@ -110,7 +110,7 @@ module _ (cs : List ℕ) where
             let same : c ≡ x.channel = eqb-true c x.channel q in
             let held : held_on c (next l x) ≡ (by_itself (held_on c l) x).held = rw same (own l x among in_range (payloads xs) r) in
             record {
-              same_said = rw (q, rest.same_said, held, says l x among in_range (payloads xs) r, same) refl;
+              same_said = rw (q, rest.same_said, held, says l x among in_range (payloads xs) r, ← same) refl;
               same_held = rw (q, rest.same_held, held) refl;
             }
         go false q =

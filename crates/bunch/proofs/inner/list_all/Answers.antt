@@ -43,7 +43,7 @@ loop-i-preserved c =
     let h : l.i < a.a.active = omega (arith, c.loop-i-test) in
     let one = c.list_one in
     let next : l.i + 1 ≡ suc l.i = omega arith in
-    (omega (arith, h), rw next (omega (arith, start_next a.a m c.requires.0 l.i h, l.invariant.1, c.bytes_of-start.ensures)), search rules, search rules, lists_next a.a m c.requires.0 l.i h (l.i + 1) (l.at + c.shown_size-at.result) (l.n + c.shown_count-n.result) l.invariant.4 next (omega (arith, c.shown_size-at.ensures)) (omega (arith, c.shown_count-n.ensures)) (rw l.invariant.1 at one.ensures.0) one.ensures.1)
+    (omega (arith, h), rw next (omega (arith, start_next a.a m c.requires.0 l.i h, l.invariant.1, c.bytes_of-start.ensures)), search rules, search rules, lists_next a.a m c.requires.0 l.i h (l.i + 1) (l.at + c.shown_size-at.result) (l.n + c.shown_count-n.result) l.invariant.4 next (omega (arith, c.shown_size-at.ensures)) (omega (arith, c.shown_count-n.ensures)) (rw l.invariant.1 at one.ensures.output) one.ensures.list)
 
 pub returns : goal.returns
 returns c =

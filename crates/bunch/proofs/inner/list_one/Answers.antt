@@ -23,23 +23,26 @@ pub returns-then-is_finished : goal.returns-then-is_finished
 unfolding shown_bytes shown_place
 returns-then-is_finished c =
     let a = c.args in
-    rw (sym c.is_finished.ensures ∙ c.if-is_finished.true) (pasted_none a.at a.output.now, pasted_none a.n a.list.now)
+    rw (sym c.is_finished.ensures ∙ c.if-is_finished.true) (record { output = pasted_none a.at a.output.now; list = pasted_none a.n a.list.now })
 
 pub copy_bytes-requires : goal.copy_bytes-requires
 copy_bytes-requires c =
     let a = c.args in
-    let e = whole_size a.t2 (sym c.is_finished.ensures ∙ c.if-is_finished.false) in
+    let e = whole_size a.p (sym c.is_finished.ensures ∙ c.if-is_finished.false) in
     (omega arith, omega arith)
 
 pub bounds-list-n : goal.bounds-list-n
 bounds-list-n c =
-    omega (arith, one_count c.args.t2 (sym c.is_finished.ensures ∙ c.if-is_finished.false), c.requires)
+    omega (arith, one_count c.args.p (sym c.is_finished.ensures ∙ c.if-is_finished.false), c.requires)
 
 pub returns : goal.returns
 unfolding shown_bytes shown_place
 returns c =
     let a = c.args in
     let e = sym c.is_finished.ensures ∙ c.if-is_finished.false in
-    let within : a.n < length a.list.now = omega (arith, one_count a.t2 e, c.requires) in
+    let within : a.n < length a.list.now = omega (arith, one_count a.p e, c.requires) in
     rw e
-    (rw c.bytes_of-size.ensures at c.copy_bytes.ensures, ap (λ (t : List (List ℕ)). set t a.n c.listed.result) (pasted_none (suc a.n) a.list.now) ∙ pasted_first a.n c.listed.result [] a.list.now within ∙ rw c.listed.ensures refl)
+    (record {
+      output = rw c.bytes_of-size.ensures at c.copy_bytes.ensures;
+      list = ap (λ (t : List (List ℕ)). set t a.n c.listed.result) (pasted_none (suc a.n) a.list.now) ∙ pasted_first a.n c.listed.result [] a.list.now within ∙ rw c.listed.ensures refl;
+    })

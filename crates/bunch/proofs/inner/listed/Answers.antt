@@ -20,6 +20,6 @@ last_words (suc n) k l e = drop-cons l k 0 (omega arith) ∙ ap (λ (t : List �
 
 pub returns : goal.returns
 returns c =
-    let p = c.args.t2 in
+    let p = c.args.p in
     let h : length p ≡ 24 = search rules in
     ap (λ (t : List ℕ). c.args.channel ∷ bits_in_place p ∷ t) (sym (last_words 20 4 p h))

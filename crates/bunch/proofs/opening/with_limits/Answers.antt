@@ -23,10 +23,10 @@ pub returns-then-fitting : goal.returns-then-fitting
 unfolding fit
 returns-then-fitting c =
     let a = c.args in
-    fits a.max-active a.max-buffered-bits (held_memory a.channels.now a.places.now a.arena.now) c.fitting.ensures c.if-fitting.true
+    fits a.max_active a.max_buffered_bits (held_memory a.channels.now a.places.now a.arena.now) c.fitting.ensures c.if-fitting.true
 
 pub returns : goal.returns
 unfolding fit
 returns c =
     let a = c.args in
-    nine a.max-active a.max-buffered-bits (held_memory a.channels.now a.places.now a.arena.now) c.fitting.ensures c.if-fitting.false
+    nine a.max_active a.max_buffered_bits (held_memory a.channels.now a.places.now a.arena.now) c.fitting.ensures c.if-fitting.false

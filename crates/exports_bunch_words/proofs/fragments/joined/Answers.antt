@@ -11,10 +11,10 @@ put-requires-3 c = simp length-set (search rules)
 pub returns : goal.returns
 returns c =
     let x = c.args in
-    let p : length x.t3 ≡ 28 = search rules in
-    let q : length x.t5 ≡ 23 = search rules in
-    let s : length x.t6 ≡ 23 = search rules in
-    joined_words x.s.number x.s.returned x.a.active x.a.total_buffered_bits x.n x.t3 x.t5 x.t6 p q s
+    let p : length x.r ≡ 28 = search rules in
+    let q : length x.d ≡ 23 = search rules in
+    let s : length x.e ≡ 23 = search rules in
+    joined_words x.s.number x.s.returned x.a.active x.a.total_buffered_bits x.n x.r x.d x.e p q s
     c.put.ensures
     c.put-2.ensures
     c.put-3.ensures

@@ -19,4 +19,4 @@ listed (a ∷ b ∷ c ∷ d ∷ e ∷ f ∷ []) n h = absurd (omega arith)
 listed (a ∷ b ∷ c ∷ d ∷ e ∷ f ∷ g ∷ x ∷ l) n h = absurd (omega arith)
 
 pub returns : goal.returns
-returns c = listed c.args.t1 c.args.count c.requires
+returns c = listed c.args.words c.args.count c.requires
