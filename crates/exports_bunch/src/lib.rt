@@ -1,5 +1,6 @@
 // The accumulator's calls for C and Rust: they write their answers as words.
 #![tactic(auto)]
+
 pub mod adding;
 pub mod drains;
 pub mod handing;

@@ -5,7 +5,7 @@ use Rattle.bench_bunch.specs.Chains.{Run, run, turn, turns, timed_payload, chain
 use Rattle.bench_bunch.proofs.Running.{turn_after, turns_end, turns_begin}
 use Rattle.bench_bunch.proofs.inner.timing_chains.Given as goal
 
-abbrev going : List ℕ → List (List ℕ) → ℕ → Run → Run
+abbrev pub going : List ℕ → List (List ℕ) → ℕ → Run → Run
 going payloads headers k = turn (timed_payload payloads k) (get_or headers k [])
 
 abbrev pub invariant-loop-k : goal.invariant-loop-k

@@ -10,7 +10,7 @@ loop-k-init c = refl
 pub loop-k-preserved : goal.loop-k-preserved
 loop-k-preserved c =
     let l = c.loop-k in
-    rw c.wrapping_add_u64-sum.ensures (sum_on _ l.sum l.k l.invariant (search rules))
+    rw c.wrapping_add_u64-sum.ensures.value (sum_on _ l.sum l.k l.invariant (search rules))
 
 pub returns : goal.returns
 returns c = sum_ends _ c.loop-k.sum c.loop-k.k c.loop-k.invariant (search rules)

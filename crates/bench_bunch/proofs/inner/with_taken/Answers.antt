@@ -5,7 +5,7 @@ use Rattle.bench_bunch.proofs.Running.{one_more}
 use Rattle.bench_bunch.proofs.inner.with_taken.Goals as goal
 
 pub returns-in-Message : goal.returns-in-Message
-returns-in-Message c = rw c.in-Message.is (one_more _ _ _ c.wrapping_add_u64.ensures c.of_header-words.ensures c.total.ensures)
+returns-in-Message c = rw c.in-Message.is (one_more _ _ _ c.wrapping_add_u64.ensures.value c.of_header-words.ensures c.total.ensures)
 
 pub returns-in-Nothing : goal.returns-in-Nothing
 unfolding summed

@@ -13,7 +13,7 @@ use Rattle.exports_bunch.proofs.drains.gritwheel_drain_unfinished.Goals as goal
 pub count-wanted-requires : goal.count-wanted-requires
 count-wanted-requires c =
     let x = c.args in
-    let a = accumulator_of x.max-active x.max-buffered-bits x.active x.total in
+    let a = accumulator_of x.max_active x.max_buffered_bits x.active x.total in
     let m = held_memory x.channels.now x.places.now x.arena.now in
     let reply = c.drain_unfinished-reply in
     start_asks a m (stands a m (was_sound reply.result _ _ a m x.output.now x.list.now reply.ensures c.in-Messages.is)) x.active (omega arith)
@@ -21,7 +21,7 @@ count-wanted-requires c =
 pub returns-in-Messages : goal.returns-in-Messages
 returns-in-Messages c =
     let x = c.args in
-    let a = accumulator_of x.max-active x.max-buffered-bits x.active x.total in
+    let a = accumulator_of x.max_active x.max_buffered_bits x.active x.total in
     let m = held_memory x.channels.now x.places.now x.arena.now in
     let reply = c.drain_unfinished-reply in
     let s = stands a m (was_sound reply.result _ _ a m x.output.now x.list.now reply.ensures c.in-Messages.is) in
@@ -30,7 +30,7 @@ returns-in-Messages c =
 pub returns-in-Refused : goal.returns-in-Refused
 returns-in-Refused c =
     let x = c.args in
-    let a = accumulator_of x.max-active x.max-buffered-bits x.active x.total in
+    let a = accumulator_of x.max_active x.max_buffered_bits x.active x.total in
     let m = held_memory x.channels.now x.places.now x.arena.now in
     let reply = c.drain_unfinished-reply in
     rw c.said-s.ensures (told_refuses reply.result _ _ reply.ensures (shown_byte_count a m) c.in-Refused.is)
