@@ -1,5 +1,6 @@
 // Many reads in one call, for bench/ to time: through `bitio`'s public calls.
 #![tactic(auto)]
+
 ghost use Rattle.std.specs.Prelude.{◌≡◌};
 ghost use Rattle.bitio_window.specs.Windows.{window_at};
 ghost use Rattle.bench_bitio.specs.Sums.{bit_sum, bits_sum, packed_sum, serialized_sum, copies_made};

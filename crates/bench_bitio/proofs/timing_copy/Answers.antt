@@ -9,13 +9,13 @@ pub returns-in-Refused : goal.returns-in-Refused
 unfolding copy_leaves
 returns-in-Refused c =
     let copy = c.copy_bits_to-read.ensures in
-    stays c.loop-k.invariant.0 (search rules) (rw c.in-Refused.is at copy.0) (rw c.in-Refused.is at copy.1)
+    stays c.loop-k.invariant.0 (search rules) (rw c.in-Refused.is at copy.answers) (rw c.in-Refused.is at copy.leaves)
 
 pub loop-k-preserved : goal.loop-k-preserved
 unfolding copy_leaves
 loop-k-preserved c =
     let copy = c.copy_bits_to-read.ensures in (
-      copies c.loop-k.invariant.0 (search rules) (rw c.in-Value.is at copy.0) (rw c.in-Value.is at copy.1),
+      copies c.loop-k.invariant.0 (search rules) (rw c.in-Value.is at copy.answers) (rw c.in-Value.is at copy.leaves),
       omega arith,
       omega arith,
     )

@@ -10,7 +10,7 @@ returns-in-Refused c = ends c.loop-k.invariant (search rules) (rw c.in-Refused.i
 
 pub loop-k-preserved : goal.loop-k-preserved
 loop-k-preserved c =
-    rw c.wrapping_add_u64-sum.ensures
+    rw c.wrapping_add_u64-sum.ensures.value
     (adds c.loop-k.invariant (search rules) (rw c.in-Value.is at c.read_serialized_int-read.ensures))
 
 pub loop-k-init : goal.loop-k-init
