@@ -6,7 +6,6 @@ use lib.IntN.{ℤ}
 use lib.ListN.{get_or}
 use mir.Syntax.{w32}
 use mir.ValLaws.{to_z-of_z}
-use borrow.Author.Rules.{rules}
 use Rattle.bitio_bits.specs.Floats.{signed}
 use Rattle.types.specs.Types.{reason_of}
 use Rattle.types.specs.declared.ChannelCloseReason.{ChannelCloseReason}

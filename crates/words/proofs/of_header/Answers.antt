@@ -3,7 +3,6 @@ use mathlib.Core.Path.{refl, ap, ◌∙◌}
 use mir.Syntax.{w32}
 use mir.Val.{SFits, of_z}
 use mir.ValLaws.{to_z-of_z}
-use borrow.Author.Rules.{rules}
 use Rattle.words.proofs.of_header.Goals as goal
 
 pub returns : goal.returns

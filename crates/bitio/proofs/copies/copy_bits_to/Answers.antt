@@ -1,7 +1,6 @@
 -- A refused copy writes nothing; any other has the room and the bits that `copy_bits` asks for.
 use native.Mathlib.Omega.{arith}
 use lib.ListN.{length}
-use borrow.Author.Rules.{rules}
 use Rattle.bitio.proofs.CopyTests.{Copyable, copyable, nothing_left, copy_left}
 use Rattle.bitio.proofs.copies.copy_bits_to.Goals.{In-Value}
 use Rattle.bitio.proofs.copies.copy_bits_to.Goals as goal

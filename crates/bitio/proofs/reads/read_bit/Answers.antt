@@ -1,6 +1,5 @@
 -- The tests, and then what `inner` reads.
 use mathlib.Core.Path.{sym, ◌∙◌}
-use borrow.Author.Rules.{rules}
 use Rattle.bitio_window.specs.Reads.{read_bit}
 use Rattle.bitio.proofs.Tests.{stopped, went_on, tested}
 use Rattle.bitio.proofs.reads.read_bit.Goals as goal

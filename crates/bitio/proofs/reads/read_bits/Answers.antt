@@ -1,6 +1,5 @@
 -- The tests, the width, and then what `inner` reads.
 use mathlib.Core.Path.{sym, ◌∙◌}
-use borrow.Author.Rules.{rules}
 use borrow.Author.Tests.{lt-ltb, le-ltb}
 use Rattle.bitio_window.specs.Reads.{read_bits}
 use Rattle.bitio_window.proofs.Rows.{refuses, lets_on}

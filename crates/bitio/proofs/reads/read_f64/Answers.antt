@@ -1,7 +1,6 @@
 -- A word, made a float.
 use mathlib.Core.Path.{sym, ap, ◌∙◌}
 use lib.Ieee.{binary64}
-use borrow.Author.Rules.{rules}
 use Rattle.bitio_window.specs.declared.U64.{U64}
 use Rattle.bitio_bits.specs.Floats.{decoded}
 use Rattle.bitio_window.specs.Reads.{read_bits, read_f64}

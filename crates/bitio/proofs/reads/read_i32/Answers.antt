@@ -3,7 +3,6 @@ use mathlib.Core.Path.{sym, ap, ◌∙◌}
 use lib.IntN.{ℤ}
 use mir.Syntax.{w32}
 use mir.ValLaws.{to_z-of_z}
-use borrow.Author.Rules.{rules}
 use Rattle.bitio_window.specs.declared.U32.{U32}
 use Rattle.bitio_bits.specs.Floats.{signed}
 use Rattle.bitio_window.specs.Parse.{got}

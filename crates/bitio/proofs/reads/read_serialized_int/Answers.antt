@@ -1,7 +1,6 @@
 -- The tests, the maximum, and then what `inner` reads.
 use mathlib.Core.Path.{sym, ◌∙◌}
 use native.Mathlib.Omega.{arith}
-use borrow.Author.Rules.{rules}
 use borrow.Author.Tests.{eq-eqb, ne_eqb}
 use Rattle.bitio_window.specs.Numbers.{read_serialized}
 use Rattle.bitio_window.proofs.Rows.{refuses, lets_on}

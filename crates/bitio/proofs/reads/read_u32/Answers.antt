@@ -1,5 +1,4 @@
 -- The low 32 bits of what was read are all of it.
-use borrow.Author.Rules.{rules}
 use Rattle.bitio.proofs.Values.{narrowed, handed_on}
 use Rattle.bitio.proofs.reads.read_u32.Goals as goal
 

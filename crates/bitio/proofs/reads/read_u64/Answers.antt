@@ -1,5 +1,4 @@
 -- All 64 bits are the number.
-use borrow.Author.Rules.{rules}
 use Rattle.bitio.proofs.reads.read_u64.Goals as goal
 
 pub returns : goal.returns

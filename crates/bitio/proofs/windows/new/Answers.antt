@@ -1,6 +1,5 @@
 -- The test and its two cases.
 use borrow.Author.Tests.{lt-ltb, le-ltb}
-use borrow.Author.Rules.{rules}
 use Rattle.bitio_window.specs.Windows.{new_window}
 use Rattle.bitio.proofs.windows.new.Goals as goal
 

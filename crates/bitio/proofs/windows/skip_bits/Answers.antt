@@ -1,6 +1,5 @@
 -- The tests, and then what `inner` skips.
 use mathlib.Core.Path.{sym, ◌∙◌}
-use borrow.Author.Rules.{rules}
 use Rattle.bitio_window.specs.Windows.{skip_bits}
 use Rattle.bitio.proofs.Tests.{stopped, went_on, tested}
 use Rattle.bitio.proofs.windows.skip_bits.Goals as goal

@@ -1,6 +1,5 @@
 -- The tests, and then the window at its end.
 use mathlib.Core.Path.{sym}
-use borrow.Author.Rules.{rules}
 use Rattle.bitio_window.specs.Windows.{skipped_to_end, skip_remaining}
 use Rattle.bitio.proofs.Tests.{stopped, went_on}
 use Rattle.bitio.proofs.windows.skip_remaining.Goals as goal

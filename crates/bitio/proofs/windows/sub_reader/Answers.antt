@@ -1,7 +1,6 @@
 -- The tests, and then what `inner` hands out.
 use mathlib.Core.Path.{sym, ◌∙◌}
 use native.Mathlib.Omega.{arith}
-use borrow.Author.Rules.{rules}
 use Rattle.bitio_window.specs.Windows.{sub_reader}
 use Rattle.bitio.proofs.Tests.{stopped, went_on, tested}
 use Rattle.bitio.proofs.windows.sub_reader.Goals as goal

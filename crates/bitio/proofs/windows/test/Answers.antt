@@ -2,7 +2,6 @@
 use mathlib.Core.Path.{sym, ◌∙◌, ap}
 use Prim.Native.Nat.{ℕ}
 use native.Mathlib.Omega.{arith}
-use borrow.Author.Rules.{rules}
 use Rattle.bitio_window.specs.Refusals.{beyond}
 use Rattle.bitio_window.specs.Parse.{refused}
 use Rattle.bitio.proofs.Tests.{too_long_is, past_data, past_window, fine}

@@ -1,6 +1,5 @@
 -- The two tests and their cases.
 use borrow.Author.Tests.{lt-ltb, le-ltb}
-use borrow.Author.Rules.{rules}
 use Rattle.bitio_window.specs.Windows.{with_bit_len}
 use Rattle.bitio.proofs.windows.with_bit_len.Goals as goal
 

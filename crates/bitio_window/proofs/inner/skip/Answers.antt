@@ -1,6 +1,5 @@
 -- Too few bits, or the window past them.
 use mathlib.Core.Path.{sym}
-use borrow.Author.Rules.{rules}
 use Rattle.bitio_window.proofs.Steps.{skip_short, skip_there}
 use Rattle.bitio_window.proofs.inner.skip.Goals as goal
 

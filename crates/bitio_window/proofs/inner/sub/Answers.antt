@@ -1,6 +1,5 @@
 -- Too few bits, or a window over them and the window past them.
 use mathlib.Core.Path.{sym}
-use borrow.Author.Rules.{rules}
 use Rattle.bitio_window.proofs.Steps.{sub_short, sub_there}
 use Rattle.bitio_window.proofs.inner.sub.Goals as goal
 

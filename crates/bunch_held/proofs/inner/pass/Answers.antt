@@ -12,7 +12,6 @@ use Rattle.bunch_held.specs.Sound.{fit, places_sound, memory_sound}
 use Rattle.bunch_held.specs.Calls.{tested}
 use Rattle.bunch_held.proofs.Soundness.{counted, Counts, counts, stands}
 use Rattle.bunch_held.proofs.Holding.{used_is}
-use borrow.Author.Rules.{rules}
 use Rattle.bunch_held.proofs.inner.pass.Goals.{After-places_sound, Else-ordered, Then-fits-active}
 use Rattle.bunch_held.proofs.inner.pass.Goals as goal
 

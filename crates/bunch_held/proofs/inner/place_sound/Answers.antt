@@ -1,5 +1,4 @@
 -- The words, and the bytes.
-use borrow.Author.Rules.{rules}
 use Rattle.bunch_held.specs.Sound.{place_sound}
 use Rattle.bunch_held.proofs.inner.place_sound.Goals as goal
 

@@ -1,13 +1,10 @@
 -- What is left to test, from place i on, decides; each message fits, since the room for the bits that are left is there.
-use Prim.Native.Nat.{◌+◌, ◌*◌, ◌-◌, ◌≤◌}
+use Prim.Native.Nat.{◌+◌}
 use mathlib.Core.Path.{◌≡◌, refl, sym, ◌∙◌}
 use native.Mathlib.Omega.{arith}
-use lib.ListN.{length, take, drop}
-use lib.Seq.{slice}
-use borrow.Author.Tests.{eq-eqb, ne_eqb, not-true, not-false}
-use borrow.Author.Rules.{rules}
-use Rattle.bunch_held.specs.Memory.{sum_of, size_all}
-use Rattle.bunch_held.specs.Sound.{places_sound}
+use lib.ListN.{drop}
+use borrow.Author.Tests.{eq-eqb, ne_eqb}
+use Rattle.bunch_held.specs.Memory.{sum_of}
 use Rattle.bunch_held.proofs.Sums.{turn}
 use Rattle.bunch_held.proofs.Passing.{too_many, one_unsound, one_sound, passed}
 use Rattle.bunch_held.proofs.inner.places_sound.Goals as goal

@@ -1,14 +1,9 @@
 use Prim.Native.Nat.{◌+◌, ◌*◌, ◌-◌, ◌≤◌}
-use mathlib.Core.Path.{◌≡◌, refl, sym, ◌∙◌}
-use native.Mathlib.Omega.{arith}
+use mathlib.Core.Path.{◌≡◌}
 use lib.ListN.{length, take, drop}
 use lib.Seq.{slice}
-use borrow.Author.Tests.{eq-eqb, ne_eqb, not-true, not-false}
-use borrow.Author.Rules.{rules}
-use Rattle.bunch_held.specs.Memory.{sum_of, size_all}
+use Rattle.bunch_held.specs.Memory.{size_all}
 use Rattle.bunch_held.specs.Sound.{places_sound}
-use Rattle.bunch_held.proofs.Sums.{turn}
-use Rattle.bunch_held.proofs.Passing.{too_many, one_unsound, one_sound, passed}
 use Rattle.bunch_held.proofs.inner.places_sound.Given as goal
 
 abbrev pub invariant-loop-i : goal.invariant-loop-i

@@ -1,6 +1,5 @@
 -- Only a byte that is not whole has spare bits.
 use mathlib.Core.Path.{sym}
-use borrow.Author.Rules.{rules}
 use Rattle.bunch_held.proofs.Passing.{no_spare, some_spare}
 use Rattle.bunch_held.proofs.inner.spare_zero.Goals as goal
 

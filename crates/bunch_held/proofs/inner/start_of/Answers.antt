@@ -1,9 +1,8 @@
 -- The bytes of the places before k are counted. Few bits take few bytes, so that the sum stays small.
-use Prim.Native.Nat.{ℕ, ◌-◌, ◌≤◌}
+use Prim.Native.Nat.{ℕ}
 use mathlib.Core.Path.{◌≡◌, refl, ap, ◌∙◌}
 use native.Mathlib.Omega.{arith}
 use lib.ListN.{take}
-use borrow.Author.Rules.{rules}
 use Rattle.bunch_held.specs.Memory.{sum_of, size_all}
 use Rattle.bunch_held.proofs.Sums.{turn}
 use Rattle.bunch_held.proofs.inner.start_of.Goals as goal

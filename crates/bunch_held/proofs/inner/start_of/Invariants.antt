@@ -1,10 +1,7 @@
-use Prim.Native.Nat.{ℕ, ◌-◌, ◌≤◌}
-use mathlib.Core.Path.{◌≡◌, refl, ap, ◌∙◌}
-use native.Mathlib.Omega.{arith}
+use Prim.Native.Nat.{◌-◌, ◌≤◌}
+use mathlib.Core.Path.{◌≡◌}
 use lib.ListN.{take}
-use borrow.Author.Rules.{rules}
-use Rattle.bunch_held.specs.Memory.{sum_of, size_all}
-use Rattle.bunch_held.proofs.Sums.{turn}
+use Rattle.bunch_held.specs.Memory.{size_all}
 use Rattle.bunch_held.proofs.inner.start_of.Given as goal
 
 abbrev pub invariant-loop-k : goal.invariant-loop-k

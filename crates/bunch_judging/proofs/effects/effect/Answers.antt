@@ -1,5 +1,4 @@
 -- Each way through is one clause of the definition.
-use borrow.Author.Rules.{rules}
 use Rattle.bunch_judging.specs.Effects.{effect_of}
 use Rattle.bunch_judging.proofs.effects.effect.Goals as goal
 

@@ -1,5 +1,4 @@
 -- Both ways of the test of zero bits.
-use borrow.Author.Rules.{rules}
 use borrow.Author.Tests.{eq-eqb, ne_eqb}
 use Rattle.bunch_judging.specs.Fates.{admitted}
 use Rattle.bunch_judging.proofs.fates.admitted.Goals as goal

@@ -1,7 +1,5 @@
 -- Each way through is one clause of the definition, by what `follows` answered.
 use mathlib.Core.Path.{refl}
-use borrow.Author.Rules.{rules}
-use borrow.Author.Tests.{not-true, not-false}
 use Rattle.bunch_judging.specs.Fates.{continued}
 use Rattle.bunch_judging.proofs.fates.continued.Goals as goal
 

@@ -1,7 +1,6 @@
 -- Each way through is one side of the definition.
 use mathlib.Core.Path.{◌≡◌, sym, ◌∙◌}
 use mathlib.Core.Bool.{Bool, false, cond}
-use borrow.Author.Rules.{rules}
 use Rattle.bunch_judging.specs.declared.Fate.{Fate}
 use Rattle.bunch_judging.specs.Fates.{fate}
 use Rattle.bunch_judging.proofs.fates.fate.Goals as goal

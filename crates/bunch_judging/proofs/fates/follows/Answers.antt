@@ -3,7 +3,6 @@ use mathlib.Core.Path.{ap, ◌∙◌}
 use mir.Syntax.{w32}
 use mir.Val.{SFits, of_z}
 use mir.ValLaws.{to_z-of_z}
-use borrow.Author.Rules.{rules}
 use Rattle.bunch_judging.specs.Fates.{follows}
 use mir.Val.{of_z}
 use Rattle.bunch_judging.proofs.fates.follows.Goals as goal

@@ -1,6 +1,5 @@
 -- Both ways of the match are the definition's clauses.
 use mathlib.Core.Path.{refl}
-use borrow.Author.Rules.{rules}
 use Rattle.bunch_judging.specs.Fates.{overlaps}
 use Rattle.bunch_judging.proofs.fates.overlaps.Goals as goal
 

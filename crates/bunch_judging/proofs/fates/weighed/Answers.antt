@@ -1,6 +1,5 @@
 -- Each way through is one clause of the definition.
 use mathlib.Core.Path.{refl}
-use borrow.Author.Rules.{rules}
 use Rattle.bunch_judging.specs.Fates.{weighed}
 use Rattle.bunch_judging.proofs.fates.weighed.Goals as goal
 

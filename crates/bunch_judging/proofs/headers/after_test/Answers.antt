@@ -1,5 +1,4 @@
 -- Both ways of the test.
-use borrow.Author.Rules.{rules}
 use Rattle.bunch_judging.specs.Headers.{after_test}
 use Rattle.bunch_judging.proofs.headers.after_test.Goals as goal
 

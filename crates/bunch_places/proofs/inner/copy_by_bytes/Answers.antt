@@ -1,10 +1,9 @@
 -- The first i bytes are pasted: a turn is Pastes' `copies_on`.
 use mathlib.Core.Path.{◌≡◌, refl, ap, ◌∙◌}
 use mathlib.Core.List.{List}
-use Prim.Native.Nat.{ℕ, ◌+◌, ◌-◌, ◌≤◌}
+use Prim.Native.Nat.{ℕ, ◌+◌}
 use native.Mathlib.Omega.{arith}
-use lib.ListN.{length, get_or, set, length-set}
-use borrow.Author.Rules.{rules}
+use lib.ListN.{get_or, set, length-set}
 use Rattle.bunch_places.specs.Bytes.{pasted, part}
 use Rattle.bunch_places.proofs.Pastes.{pasted_none, copies_on}
 use Rattle.bunch_places.proofs.inner.copy_by_bytes.Goals as goal

@@ -1,11 +1,7 @@
-use mathlib.Core.Path.{◌≡◌, refl, ap, ◌∙◌}
-use mathlib.Core.List.{List}
-use Prim.Native.Nat.{ℕ, ◌+◌, ◌-◌, ◌≤◌}
-use native.Mathlib.Omega.{arith}
-use lib.ListN.{length, get_or, set, length-set}
-use borrow.Author.Rules.{rules}
+use mathlib.Core.Path.{◌≡◌}
+use Prim.Native.Nat.{◌-◌, ◌≤◌}
+use lib.ListN.{length}
 use Rattle.bunch_places.specs.Bytes.{pasted, part}
-use Rattle.bunch_places.proofs.Pastes.{pasted_none, copies_on}
 use Rattle.bunch_places.proofs.inner.copy_by_bytes.Given as goal
 
 abbrev pub invariant-loop-i : goal.invariant-loop-i

@@ -1,10 +1,7 @@
 -- The first i bytes are pasted: a turn is Blocks' `copies_block`, and what is left is one block more.
-use mathlib.Core.Path.{◌≡◌, refl, ◌∙◌}
-use Prim.Native.Nat.{◌+◌, ◌-◌, ◌≤◌}
+use mathlib.Core.Path.{refl, ◌∙◌}
+use Prim.Native.Nat.{◌+◌, ◌-◌}
 use native.Mathlib.Omega.{arith}
-use lib.ListN.{length}
-use borrow.Author.Rules.{rules}
-use Rattle.bunch_places.specs.Bytes.{pasted, part}
 use Rattle.bunch_places.proofs.Pastes.{pasted_none}
 use Rattle.bunch_places.proofs.Blocks.{copies_block, length_block}
 use Rattle.bunch_places.proofs.Overlaps.{copies_over}

@@ -1,12 +1,7 @@
-use mathlib.Core.Path.{◌≡◌, refl, ◌∙◌}
-use Prim.Native.Nat.{◌+◌, ◌-◌, ◌≤◌}
-use native.Mathlib.Omega.{arith}
+use mathlib.Core.Path.{◌≡◌}
+use Prim.Native.Nat.{◌-◌, ◌≤◌}
 use lib.ListN.{length}
-use borrow.Author.Rules.{rules}
 use Rattle.bunch_places.specs.Bytes.{pasted, part}
-use Rattle.bunch_places.proofs.Pastes.{pasted_none}
-use Rattle.bunch_places.proofs.Blocks.{copies_block, length_block}
-use Rattle.bunch_places.proofs.Overlaps.{copies_over}
 use Rattle.bunch_places.proofs.inner.copy_bytes.Given as goal
 
 abbrev pub invariant-loop-i : goal.invariant-loop-i

@@ -3,7 +3,6 @@ use mathlib.Core.Path.{◌≡◌, ap, ◌∙◌}
 use Prim.Native.Nat.{ℕ, ◌*◌, ◌%◌, ◌^◌, ◌<◌}
 use native.Mathlib.Nat.{one-mul, mod-eq_of_lt}
 use lib.Pow.{pow_pos, pow-lt}
-use borrow.Author.Rules.{rules}
 use Rattle.bunch_places.proofs.inner.low.Goals as goal
 
 power : (n : ℕ) → n < 8 → (1 * 2 ^ n) % 2 ^ 8 ≡ 2 ^ n

@@ -1,7 +1,6 @@
 -- Either way is its function's; where neither is taken, bytes pasted where they stand change nothing.
 use mathlib.Core.Path.{◌≡◌}
 use native.Mathlib.Omega.{arith}
-use borrow.Author.Rules.{rules}
 use Rattle.bunch_places.proofs.Pastes.{pasted_same}
 use Rattle.bunch_places.proofs.inner.move_bytes.Goals as goal
 

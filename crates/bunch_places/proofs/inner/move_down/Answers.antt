@@ -1,10 +1,7 @@
 -- The first i bytes have moved: a turn is Blocks' `moves_block_down`; what is left is one block more, or `moves_rest_down`.
-use mathlib.Core.Path.{◌≡◌, refl, ◌∙◌}
-use Prim.Native.Nat.{◌+◌, ◌-◌, ◌≤◌}
+use mathlib.Core.Path.{refl, ◌∙◌}
+use Prim.Native.Nat.{◌+◌, ◌-◌}
 use native.Mathlib.Omega.{arith}
-use lib.ListN.{length}
-use borrow.Author.Rules.{rules}
-use Rattle.bunch_places.specs.Bytes.{pasted, part}
 use Rattle.bunch_places.proofs.Pastes.{pasted_none}
 use Rattle.bunch_places.proofs.Blocks.{moves_block_down, moves_rest_down, length_block}
 use Rattle.bunch_places.proofs.Overlaps.{moves_over_down}

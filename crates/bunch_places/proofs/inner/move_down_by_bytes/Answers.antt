@@ -1,10 +1,9 @@
 -- The first i bytes have moved: a turn is Pastes' `moves_down`.
 use mathlib.Core.Path.{◌≡◌, refl, ap, ◌∙◌}
 use mathlib.Core.List.{List}
-use Prim.Native.Nat.{ℕ, ◌+◌, ◌-◌, ◌≤◌}
+use Prim.Native.Nat.{ℕ, ◌+◌}
 use native.Mathlib.Omega.{arith}
-use lib.ListN.{length, get_or, set, length-set}
-use borrow.Author.Rules.{rules}
+use lib.ListN.{get_or, set, length-set}
 use Rattle.bunch_places.specs.Bytes.{pasted, part}
 use Rattle.bunch_places.proofs.Pastes.{pasted_none, moves_down}
 use Rattle.bunch_places.proofs.inner.move_down_by_bytes.Goals as goal

@@ -1,10 +1,8 @@
 -- The bytes from i on have moved: a turn is Blocks' `moves_block`; what is left is one block more, or a block of i bytes.
-use mathlib.Core.Path.{◌≡◌, refl, ◌∙◌}
-use Prim.Native.Nat.{◌+◌, ◌-◌, ◌≤◌}
+use mathlib.Core.Path.{refl, ◌∙◌}
+use Prim.Native.Nat.{◌+◌, ◌-◌}
 use native.Mathlib.Omega.{arith}
-use lib.ListN.{length}
-use borrow.Author.Rules.{rules}
-use Rattle.bunch_places.proofs.Pastes.{MovedFrom, moves_none}
+use Rattle.bunch_places.proofs.Pastes.{moves_none}
 use Rattle.bunch_places.proofs.Blocks.{moves_block, moves_rest, length_block}
 use Rattle.bunch_places.proofs.Overlaps.{moves_over}
 use Rattle.bunch_places.proofs.inner.move_up.Goals as goal

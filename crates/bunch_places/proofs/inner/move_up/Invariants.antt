@@ -1,11 +1,7 @@
-use mathlib.Core.Path.{◌≡◌, refl, ◌∙◌}
-use Prim.Native.Nat.{◌+◌, ◌-◌, ◌≤◌}
-use native.Mathlib.Omega.{arith}
+use mathlib.Core.Path.{◌≡◌}
+use Prim.Native.Nat.{◌≤◌}
 use lib.ListN.{length}
-use borrow.Author.Rules.{rules}
-use Rattle.bunch_places.proofs.Pastes.{MovedFrom, moves_none}
-use Rattle.bunch_places.proofs.Blocks.{moves_block, moves_rest, length_block}
-use Rattle.bunch_places.proofs.Overlaps.{moves_over}
+use Rattle.bunch_places.proofs.Pastes.{MovedFrom}
 use Rattle.bunch_places.proofs.inner.move_up.Given as goal
 
 abbrev pub invariant-loop-i : goal.invariant-loop-i

@@ -1,10 +1,9 @@
 -- The bytes from i on have moved: a turn is Pastes' `moves_up`.
-use mathlib.Core.Path.{◌≡◌, refl}
-use Prim.Native.Nat.{◌-◌, ◌≤◌}
+use mathlib.Core.Path.{refl}
+use Prim.Native.Nat.{◌-◌}
 use native.Mathlib.Omega.{arith}
-use lib.ListN.{length, length-set}
-use borrow.Author.Rules.{rules}
-use Rattle.bunch_places.proofs.Pastes.{MovedFrom, moves_none, moves_up, moves_all}
+use lib.ListN.{length-set}
+use Rattle.bunch_places.proofs.Pastes.{moves_none, moves_up, moves_all}
 use Rattle.bunch_places.proofs.inner.move_up_by_bytes.Goals as goal
 
 pub loop-i-init : goal.loop-i-init

@@ -1,9 +1,7 @@
-use mathlib.Core.Path.{◌≡◌, refl}
-use Prim.Native.Nat.{◌-◌, ◌≤◌}
-use native.Mathlib.Omega.{arith}
-use lib.ListN.{length, length-set}
-use borrow.Author.Rules.{rules}
-use Rattle.bunch_places.proofs.Pastes.{MovedFrom, moves_none, moves_up, moves_all}
+use mathlib.Core.Path.{◌≡◌}
+use Prim.Native.Nat.{◌≤◌}
+use lib.ListN.{length}
+use Rattle.bunch_places.proofs.Pastes.{MovedFrom}
 use Rattle.bunch_places.proofs.inner.move_up_by_bytes.Given as goal
 
 abbrev pub invariant-loop-i : goal.invariant-loop-i

@@ -1,6 +1,5 @@
 -- The whole bytes are copied, and what is left of the bits goes behind them.
 use native.Mathlib.Omega.{arith}
-use borrow.Author.Rules.{rules}
 use Rattle.bunch_places.proofs.Payloads.{whole_bytes, pasted_rest}
 use Rattle.bunch_places.proofs.inner.put_payload.Goals as goal
 

@@ -1,12 +1,11 @@
 -- The places up to i have moved down, as the `Closed` of tables has it.
 use mathlib.Core.Path.{◌≡◌, refl, ap, ◌∙◌}
 use mathlib.Core.List.{[]}
-use Prim.Native.Nat.{ℕ, suc, ◌+◌, ◌-◌, ◌≤◌, ◌<◌}
+use Prim.Native.Nat.{ℕ, suc, ◌+◌}
 use native.Mathlib.Omega.{arith}
-use lib.ListN.{length, take, length-set}
-use borrow.Author.Rules.{rules}
+use lib.ListN.{take, length-set}
 use Rattle.tables.specs.Columns.{laid, removed_at}
-use Rattle.tables.proofs.Edits.{Closed, closes, closes_on}
+use Rattle.tables.proofs.Edits.{closes, closes_on}
 use Rattle.bunch_places.proofs.inner.remove_place.Goals as goal
 
 pub loop-i-init : goal.loop-i-init

@@ -1,7 +1,6 @@
 -- Each way out is one law of Records, at what the handle's read gave.
 use mathlib.Core.Path.{sym, ◌∙◌}
 use Rattle.field_walking.proofs.Records.{told_value, told_refusal, call_refused, call_abandons, call_goes_on}
-use borrow.Author.Rules.{rules}
 use Rattle.field_walking.proofs.inner.call.Goals as goal
 
 pub returns-then-next-position-lt8 : goal.returns-then-next-position-lt8

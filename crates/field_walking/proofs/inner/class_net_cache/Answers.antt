@@ -1,7 +1,6 @@
 -- The end, or a call with the maximum at least 2.
 use mathlib.Core.Path.{sym, ap, ◌∙◌}
 use native.Mathlib.Omega.{arith}
-use borrow.Author.Rules.{rules}
 use Rattle.field_walking.specs.Records.{call}
 use Rattle.field_walking.proofs.Records.{calls_end, calls_go_on}
 use Rattle.field_walking.proofs.inner.class_net_cache.Goals as goal

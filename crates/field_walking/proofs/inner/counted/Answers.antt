@@ -2,7 +2,6 @@
 use mathlib.Core.Path.{sym}
 use Rattle.bitio_window.proofs.Steps.{sound_past}
 use Rattle.field_walking.proofs.Records.{told_value, told_refusal, counted_refused, overlong, whole}
-use borrow.Author.Rules.{rules}
 use Rattle.field_walking.proofs.inner.counted.Goals as goal
 
 pub returns-then-next-position : goal.returns-then-next-position

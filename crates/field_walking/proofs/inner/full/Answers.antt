@@ -1,6 +1,5 @@
 -- 14 carries the place where the record starts.
 use mathlib.Core.Path.{refl}
-use borrow.Author.Rules.{rules}
 use Rattle.field_walking.proofs.inner.full.Goals as goal
 
 pub returns : goal.returns

@@ -1,6 +1,5 @@
 -- The meaning by the kind, at the kind that the match found.
 use mathlib.Core.Path.{sym, ap, ◌∙◌}
-use borrow.Author.Rules.{rules}
 use Rattle.field_walking.specs.declared.inner.RecordKind.{RecordKind}
 use Rattle.field_walking.specs.Records.{look}
 use Rattle.field_walking.proofs.inner.look.Goals as goal

@@ -1,7 +1,6 @@
 -- Past the list's end `set` changes nothing.
 use mathlib.Core.Path.{refl, sym}
 use lib.Seq.{set_out}
-use borrow.Author.Rules.{rules}
 use borrow.Author.Tests.{lt-ltb, le-ltb}
 use Rattle.field_walking.proofs.inner.put.Goals as goal
 

@@ -1,7 +1,6 @@
 -- Each way out is one law of Records, at what the handle's read gave.
 use mathlib.Core.Path.{sym, ◌∙◌}
 use Rattle.field_walking.proofs.Records.{told_value, told_refusal, rep_refused, rep_ends, rep_goes_on}
-use borrow.Author.Rules.{rules}
 use Rattle.field_walking.proofs.inner.rep_layout.Goals as goal
 
 pub returns-then-code-eq0 : goal.returns-then-code-eq0

@@ -1,10 +1,7 @@
 -- The first i + 1 channels have been passed.
-use mathlib.Core.Path.{◌≡◌, ◌∙◌}
-use Prim.Native.Nat.{suc, ◌+◌, ◌-◌, ◌≤◌}
+use mathlib.Core.Path.{◌∙◌}
+use Prim.Native.Nat.{◌+◌}
 use native.Mathlib.Omega.{arith}
-use lib.ListN.{take}
-use borrow.Author.Rules.{rules}
-use Rattle.tables.specs.Columns.{ascending}
 use Rattle.tables.proofs.Ascending.{begins, turn, ends}
 use Rattle.tables.proofs.inner.ascending.Goals as goal
 

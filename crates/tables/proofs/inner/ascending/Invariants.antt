@@ -1,10 +1,7 @@
-use mathlib.Core.Path.{◌≡◌, ◌∙◌}
-use Prim.Native.Nat.{suc, ◌+◌, ◌-◌, ◌≤◌}
-use native.Mathlib.Omega.{arith}
+use mathlib.Core.Path.{◌≡◌}
+use Prim.Native.Nat.{suc, ◌-◌, ◌≤◌}
 use lib.ListN.{take}
-use borrow.Author.Rules.{rules}
 use Rattle.tables.specs.Columns.{ascending}
-use Rattle.tables.proofs.Ascending.{begins, turn, ends}
 use Rattle.tables.proofs.inner.ascending.Given as goal
 
 abbrev pub invariant-loop-i : goal.invariant-loop-i

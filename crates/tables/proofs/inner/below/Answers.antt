@@ -1,6 +1,5 @@
 -- The last places are counted from where 8 are left.
 use native.Mathlib.Omega.{arith}
-use borrow.Author.Rules.{rules}
 use Rattle.tables.proofs.Searches.{back}
 use Rattle.tables.proofs.inner.below.Goals as goal
 

@@ -1,10 +1,5 @@
-use mathlib.Core.Logic.{⊎_elim}
-use mathlib.Core.Path.{◌≡◌}
-use Prim.Native.Nat.{suc, ◌+◌, ◌-◌, ◌≤◌}
-use native.Mathlib.Omega.{arith}
-use borrow.Author.Rules.{rules}
+use Prim.Native.Nat.{◌+◌, ◌-◌, ◌≤◌}
 use Rattle.tables.specs.Search.{Near}
-use Rattle.tables.proofs.Searches.{counted, passed, none_counted, all_counted}
 use Rattle.tables.proofs.inner.count.Given as goal
 
 abbrev pub invariant-loop-i : goal.invariant-loop-i

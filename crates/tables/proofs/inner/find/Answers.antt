@@ -1,6 +1,5 @@
 -- The channel stands where the channels below it end, or would go there.
 use native.Mathlib.Omega.{arith}
-use borrow.Author.Rules.{rules}
 use Rattle.tables.proofs.Ascending.{rising}
 use Rattle.tables.proofs.Searches.{ends_at, ends_free}
 use Rattle.tables.proofs.inner.find.Goals as goal

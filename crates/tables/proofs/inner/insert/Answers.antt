@@ -1,11 +1,10 @@
 -- The free place moves down to `at`, as Edits' `Opened` has it.
 use mathlib.Core.Path.{◌≡◌, refl, ap, ◌∙◌}
 use mathlib.Core.List.{List}
-use Prim.Native.Nat.{ℕ, ◌-◌, ◌≤◌}
+use Prim.Native.Nat.{ℕ, ◌-◌}
 use native.Mathlib.Omega.{arith}
-use lib.ListN.{length, set, get_or, length-set}
-use borrow.Author.Rules.{rules}
-use Rattle.tables.proofs.Edits.{Opened, opens, opens_on, filled}
+use lib.ListN.{set, get_or, length-set}
+use Rattle.tables.proofs.Edits.{opens, opens_on, filled}
 use Rattle.tables.proofs.inner.insert.Goals as goal
 
 pub loop-i-init : goal.loop-i-init

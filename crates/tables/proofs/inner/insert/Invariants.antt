@@ -1,10 +1,7 @@
-use mathlib.Core.Path.{◌≡◌, refl, ap, ◌∙◌}
-use mathlib.Core.List.{List}
-use Prim.Native.Nat.{ℕ, ◌-◌, ◌≤◌}
-use native.Mathlib.Omega.{arith}
-use lib.ListN.{length, set, get_or, length-set}
-use borrow.Author.Rules.{rules}
-use Rattle.tables.proofs.Edits.{Opened, opens, opens_on, filled}
+use mathlib.Core.Path.{◌≡◌}
+use Prim.Native.Nat.{◌≤◌}
+use lib.ListN.{length}
+use Rattle.tables.proofs.Edits.{Opened}
 use Rattle.tables.proofs.inner.insert.Given as goal
 
 abbrev pub invariant-loop-i : goal.invariant-loop-i

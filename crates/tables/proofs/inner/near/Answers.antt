@@ -1,7 +1,6 @@
 -- `by_number` where few numbers are free; else the steps hand `Near` on.
 use Prim.Native.Nat.{◌-◌}
 use native.Mathlib.Omega.{arith}
-use borrow.Author.Rules.{rules}
 use Rattle.tables.proofs.Searches.{last_high, by_number}
 use Rattle.tables.proofs.inner.near.Goals as goal
 

@@ -1,11 +1,10 @@
 -- The places up to i have moved down, as Edits' `Closed` has it.
 use mathlib.Core.Path.{◌≡◌, refl, ap, ◌∙◌}
-use Prim.Native.Nat.{ℕ, suc, ◌+◌, ◌-◌, ◌≤◌, ◌<◌}
+use Prim.Native.Nat.{ℕ, suc, ◌+◌}
 use native.Mathlib.Omega.{arith}
-use lib.ListN.{length, take, length-set}
-use borrow.Author.Rules.{rules}
+use lib.ListN.{take, length-set}
 use Rattle.tables.specs.Columns.{laid, removed_at}
-use Rattle.tables.proofs.Edits.{Closed, closes, closes_on}
+use Rattle.tables.proofs.Edits.{closes, closes_on}
 use Rattle.tables.proofs.inner.remove.Goals as goal
 
 pub loop-i-init : goal.loop-i-init

@@ -1,10 +1,7 @@
-use mathlib.Core.Path.{◌≡◌, refl, ap, ◌∙◌}
-use Prim.Native.Nat.{ℕ, suc, ◌+◌, ◌-◌, ◌≤◌, ◌<◌}
-use native.Mathlib.Omega.{arith}
-use lib.ListN.{length, take, length-set}
-use borrow.Author.Rules.{rules}
-use Rattle.tables.specs.Columns.{laid, removed_at}
-use Rattle.tables.proofs.Edits.{Closed, closes, closes_on}
+use mathlib.Core.Path.{◌≡◌}
+use Prim.Native.Nat.{◌-◌, ◌≤◌, ◌<◌}
+use lib.ListN.{length}
+use Rattle.tables.proofs.Edits.{Closed}
 use Rattle.tables.proofs.inner.remove.Given as goal
 
 abbrev pub invariant-loop-i : goal.invariant-loop-i

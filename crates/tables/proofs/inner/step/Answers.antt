@@ -1,7 +1,6 @@
 -- `up` where the place looked at is below the channel, `down` where it is not.
 use Prim.Native.Nat.{◌+◌, ◌-◌}
 use native.Mathlib.Omega.{arith}
-use borrow.Author.Rules.{rules}
 use Rattle.tables.proofs.Searches.{up, down}
 use Rattle.tables.proofs.inner.step.Goals as goal
 

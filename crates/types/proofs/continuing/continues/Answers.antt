@@ -1,5 +1,4 @@
 -- The definition, word for word.
-use borrow.Author.Rules.{rules}
 use Rattle.types.specs.Continuing.{continues}
 use Rattle.types.proofs.continuing.continues.Goals as goal
 

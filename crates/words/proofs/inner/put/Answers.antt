@@ -1,12 +1,11 @@
 -- The first i words are pasted: a turn is Seq's `paste-suc`.
 use mathlib.Core.Path.{◌≡◌, refl, ap, ◌∙◌}
 use mathlib.Core.List.{List, ◌++◌, append_assoc}
-use Prim.Native.Nat.{ℕ, ◌+◌, ◌-◌, ◌≤◌}
+use Prim.Native.Nat.{ℕ, ◌+◌}
 use native.Mathlib.Numerals.{add-one}
 use native.Mathlib.Omega.{arith}
 use lib.ListN.{length, get_or, set, take, drop, length-set}
 use lib.Seq.{paste, paste-zero, paste-suc, take-length}
-use borrow.Author.Rules.{rules}
 use Rattle.words.proofs.inner.put.Goals as goal
 
 all_put : (d : List ℕ) (at i : ℕ) (s : List ℕ) → i ≡ length s → paste d at s i ≡ take at d ++ (s ++ drop (at + length s) d)

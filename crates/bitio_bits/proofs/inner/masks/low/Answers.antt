@@ -2,7 +2,6 @@
 use native.Mathlib.Nat.{mod-le}
 use Prim.Native.Nat.{◌^◌}
 use lib.Bits.{and_mask, mask_lt}
-use borrow.Author.Rules.{rules}
 use Rattle.bitio_bits.proofs.inner.masks.low.Goals as goal
 
 pub returns : goal.returns

@@ -4,7 +4,6 @@ use Prim.Native.Nat.{ℕ, ◌*◌, ◌%◌, ◌^◌, ◌<◌}
 use native.Mathlib.Nat.{one-mul, mod-le, mod-eq_of_lt}
 use lib.Bits.{and_mask, mask_lt}
 use lib.Pow.{pow_pos, pow-lt}
-use borrow.Author.Rules.{rules}
 use Rattle.bitio_bits.proofs.inner.masks.low_by_shift.Goals as goal
 
 power : (n : ℕ) → n < 64 → (1 * 2 ^ n) % 2 ^ 64 ≡ 2 ^ n

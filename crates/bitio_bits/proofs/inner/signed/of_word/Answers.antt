@@ -2,7 +2,6 @@
 use mathlib.Core.Path.{◌∙◌}
 use mir.Syntax.{w32}
 use mir.ValLaws.{to_z-of_z}
-use borrow.Author.Rules.{rules}
 use Rattle.bitio_bits.proofs.Signed.{low_half, high_fits, high_half}
 use Rattle.bitio_bits.proofs.inner.signed.of_word.Goals as goal
 

@@ -2,10 +2,8 @@
 use mathlib.Core.Path.{◌≡◌, refl, ap, ◌∙◌}
 use Prim.Native.Nat.{ℕ, ◌+◌, ◌*◌, ◌-◌, ◌/◌, min}
 use native.Mathlib.Omega.{arith}
-use lib.ListN.{length}
-use borrow.Author.Rules.{rules}
 use Rattle.bitio_bits.specs.Bits.{bits_at}
-use Rattle.bitio_window.proofs.Copied.{Front, none, more, done}
+use Rattle.bitio_window.proofs.Copied.{none, more, done}
 use Rattle.bitio_window.proofs.inner.copy.copy_bits.Goals as goal
 
 pub loop-left-init : goal.loop-left-init

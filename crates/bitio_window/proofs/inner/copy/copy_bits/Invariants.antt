@@ -1,10 +1,7 @@
-use mathlib.Core.Path.{◌≡◌, refl, ap, ◌∙◌}
-use Prim.Native.Nat.{ℕ, ◌+◌, ◌*◌, ◌-◌, ◌/◌, min}
-use native.Mathlib.Omega.{arith}
+use mathlib.Core.Path.{◌≡◌}
+use Prim.Native.Nat.{◌+◌, ◌*◌}
 use lib.ListN.{length}
-use borrow.Author.Rules.{rules}
-use Rattle.bitio_bits.specs.Bits.{bits_at}
-use Rattle.bitio_window.proofs.Copied.{Front, none, more, done}
+use Rattle.bitio_window.proofs.Copied.{Front}
 use Rattle.bitio_window.proofs.inner.copy.copy_bits.Given as goal
 
 abbrev pub invariant-loop-left : goal.invariant-loop-left

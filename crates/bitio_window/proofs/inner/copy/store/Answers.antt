@@ -1,11 +1,10 @@
 -- What is still to be stored goes on from where the loop is.
 use mathlib.Core.Path.{◌≡◌, refl, ap, sym, ◌∙◌}
 use mathlib.Core.List.{List}
-use Prim.Native.Nat.{ℕ, suc, ◌+◌, ◌-◌, ◌/◌, ◌%◌, ◌≤◌}
+use Prim.Native.Nat.{ℕ, suc, ◌+◌, ◌-◌, ◌/◌, ◌%◌}
 use native.Mathlib.Nat.{add-zero, sub-zero, add_assoc}
 use native.Mathlib.Omega.{arith}
-use lib.ListN.{length, set, length-set}
-use borrow.Author.Rules.{rules}
+use lib.ListN.{set, length-set}
 use Rattle.bitio_bits.specs.Words.{stored}
 use Rattle.bitio_window.proofs.inner.copy.store.Goals as goal
 

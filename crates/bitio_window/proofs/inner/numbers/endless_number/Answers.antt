@@ -1,6 +1,5 @@
 -- The refusal of the place that `place_of` gives, forty bits on.
 use mathlib.Core.Path.{refl}
-use borrow.Author.Rules.{rules}
 use Rattle.bitio_window.proofs.inner.numbers.endless_number.Goals as goal
 
 pub returns : goal.returns

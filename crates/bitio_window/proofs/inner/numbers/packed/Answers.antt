@@ -1,14 +1,13 @@
 -- The loop is before byte k of the number, as Packed's `Turn` has it; each way out is a law of that record.
 use mathlib.Core.Path.{◌≡◌, ap, sym, ◌∙◌}
-use Prim.Native.Nat.{ℕ, ◌≤◌, ◌<◌, ◌-◌, ◌+◌, ◌*◌, ◌/◌, ◌%◌, ◌^◌}
+use Prim.Native.Nat.{ℕ, ◌<◌, ◌+◌, ◌*◌, ◌/◌, ◌%◌, ◌^◌}
 use native.Mathlib.Nat.{div-one}
 use native.Mathlib.Omega.{arith}
 use lib.Pow.{shr-shr}
-use borrow.Author.Rules.{rules}
 use Rattle.bitio_bits.specs.Bits.{bits_at}
 use Rattle.bitio_window.specs.Places.{packet_bit}
 use Rattle.bitio_window.proofs.Steps.{sound_past}
-use Rattle.bitio_window.proofs.Packed.{Turn, begin, cut_byte, sum_fits, scale_fits, only_fifth, large, value, next}
+use Rattle.bitio_window.proofs.Packed.{begin, cut_byte, sum_fits, scale_fits, only_fifth, large, value, next}
 use Rattle.bitio_window.proofs.inner.numbers.packed.Goals.{After-low-byte}
 use Rattle.bitio_window.proofs.inner.numbers.packed.Goals as goal
 

@@ -1,13 +1,6 @@
-use mathlib.Core.Path.{◌≡◌, ap, sym, ◌∙◌}
-use Prim.Native.Nat.{ℕ, ◌≤◌, ◌<◌, ◌-◌, ◌+◌, ◌*◌, ◌/◌, ◌%◌, ◌^◌}
-use native.Mathlib.Nat.{div-one}
-use native.Mathlib.Omega.{arith}
-use lib.Pow.{shr-shr}
-use borrow.Author.Rules.{rules}
-use Rattle.bitio_bits.specs.Bits.{bits_at}
-use Rattle.bitio_window.specs.Places.{packet_bit}
-use Rattle.bitio_window.proofs.Steps.{sound_past}
-use Rattle.bitio_window.proofs.Packed.{Turn, begin, cut_byte, sum_fits, scale_fits, only_fifth, large, value, next}
+use mathlib.Core.Path.{◌≡◌}
+use Prim.Native.Nat.{◌≤◌, ◌-◌, ◌*◌, ◌/◌, ◌^◌}
+use Rattle.bitio_window.proofs.Packed.{Turn}
 use Rattle.bitio_window.proofs.inner.numbers.packed.Given as goal
 
 abbrev pub invariant-loop-k : goal.invariant-loop-k

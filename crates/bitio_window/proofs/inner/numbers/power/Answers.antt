@@ -4,7 +4,6 @@ use Prim.Native.Nat.{ℕ, ◌*◌, ◌%◌, ◌^◌}
 use native.Mathlib.Nat.{one-mul, mod-eq_of_lt}
 use native.Mathlib.Omega.{arith}
 use lib.Pow.{pow_pos, pow-lt}
-use borrow.Author.Rules.{rules}
 use Rattle.bitio_window.proofs.inner.numbers.power.Goals as goal
 
 pub returns : goal.returns

@@ -2,7 +2,6 @@
 use mathlib.Core.Path.{refl}
 use Prim.Native.Nat.{◌+◌, ◌%◌, ◌^◌}
 use native.Mathlib.Omega.{arith}
-use borrow.Author.Rules.{rules}
 use Rattle.bitio_window.specs.Numbers.{log2}
 use Rattle.bitio_window.specs.Widths.{serialized_width}
 use Rattle.bitio_window.proofs.Widths.{follows}

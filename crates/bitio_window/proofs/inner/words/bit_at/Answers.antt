@@ -1,5 +1,4 @@
 -- One byte, shifted: document 01's own words.
-use borrow.Author.Rules.{rules}
 use Rattle.bitio_bits.specs.Bits.{bit_at}
 use Rattle.bitio_bits.proofs.Numbers.{bits_one}
 use Rattle.bitio_window.proofs.inner.words.bit_at.Goals as goal

@@ -1,7 +1,6 @@
 -- One load and its low bits, with the ninth byte where the load runs out: the laws of Loads.
 use mathlib.Core.Path.{◌∙◌}
 use native.Mathlib.Omega.{arith}
-use borrow.Author.Rules.{rules}
 use Rattle.bitio_bits.proofs.Loads.{short_read, long_read, both_lt}
 use Rattle.bitio_window.proofs.inner.words.bits_at.Goals as goal
 

@@ -5,7 +5,6 @@ use Prim.Native.Nat.{ℕ, suc, ◌+◌, ◌*◌, ◌-◌, ◌≤◌, ◌<◌}
 use native.Mathlib.Decide.{dec_le}
 use native.Mathlib.Omega.{arith}
 use lib.ListN.{length, get_or}
-use borrow.Author.Rules.{rules}
 use Rattle.bitio_bits.specs.Words.{eight_at}
 use Rattle.bitio_bits.proofs.Numbers.{Bytes, from, from_step}
 use Rattle.bitio_bits.proofs.Loads.{from_end, few_bytes, last_eight}

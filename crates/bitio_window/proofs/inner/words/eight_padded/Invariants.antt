@@ -1,13 +1,7 @@
-use mathlib.Core.Path.{◌≡◌, refl, ap, sym, ◌∙◌}
-use mathlib.Core.List.{List}
-use Prim.Native.Nat.{ℕ, suc, ◌+◌, ◌*◌, ◌-◌, ◌≤◌, ◌<◌}
-use native.Mathlib.Decide.{dec_le}
-use native.Mathlib.Omega.{arith}
-use lib.ListN.{length, get_or}
-use borrow.Author.Rules.{rules}
-use Rattle.bitio_bits.specs.Words.{eight_at}
-use Rattle.bitio_bits.proofs.Numbers.{Bytes, from, from_step}
-use Rattle.bitio_bits.proofs.Loads.{from_end, few_bytes, last_eight}
+use mathlib.Core.Path.{◌≡◌}
+use Prim.Native.Nat.{◌≤◌, ◌<◌}
+use lib.ListN.{length}
+use Rattle.bitio_bits.proofs.Numbers.{from}
 use Rattle.bitio_window.proofs.inner.words.eight_padded.Given as goal
 
 abbrev pub invariant-loop-i : goal.invariant-loop-i

@@ -1,6 +1,5 @@
 -- The word is one load, shifted: the law of Loads.
 use native.Mathlib.Omega.{arith}
-use borrow.Author.Rules.{rules}
 use Rattle.bitio_bits.proofs.Loads.{peeked}
 use Rattle.bitio_window.proofs.inner.words.peek.Goals as goal
 

@@ -1,7 +1,6 @@
 -- One load, with the ninth byte where bit `at` is not its first: the laws of Loads.
 use native.Mathlib.Omega.{arith}
 use Rattle.bitio_bits.proofs.Loads.{whole_load, whole_word, both_lt}
-use borrow.Author.Rules.{rules}
 use Rattle.bitio_window.proofs.inner.words.word_at.Goals as goal
 
 pub returns-then-off-eq0 : goal.returns-then-off-eq0

@@ -1,6 +1,5 @@
 -- Both ways of the match are the definition's clauses.
 use mathlib.Core.Path.{refl}
-use borrow.Author.Rules.{rules}
 use Rattle.bunch_judging.proofs.inner.displacement.displaced_by.Goals as goal
 
 pub returns-in-Nothing : goal.returns-in-Nothing

@@ -1,5 +1,4 @@
 -- What the fragment joins, its header after the test and the cause are those of the definition.
-use borrow.Author.Rules.{rules}
 use Rattle.bunch_judging.proofs.inner.displacement.fallen.Goals as goal
 
 pub returns : goal.returns

@@ -1,6 +1,5 @@
 -- Nothing's header comes back from its words.
 use mathlib.Core.Path.{refl}
-use borrow.Author.Rules.{rules}
 use native.Mathlib.Nat.{zero-add}
 use native.Mathlib.Omega.{arith}
 use Rattle.words.specs.Range.{InRange}

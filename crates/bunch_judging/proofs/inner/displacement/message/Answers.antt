@@ -1,5 +1,4 @@
 -- The header is that of its words.
-use borrow.Author.Rules.{rules}
 use Rattle.bunch_judging.proofs.inner.displacement.message.Goals as goal
 
 pub returns : goal.returns

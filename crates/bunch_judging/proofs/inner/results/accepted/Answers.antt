@@ -1,5 +1,4 @@
 -- Field by field; the header, the kind and the overlap by their own functions.
-use borrow.Author.Rules.{rules}
 use Rattle.bunch_judging.proofs.inner.results.accepted.Goals as goal
 
 pub returns : goal.returns

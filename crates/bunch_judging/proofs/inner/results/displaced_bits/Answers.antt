@@ -1,6 +1,5 @@
 -- Each way through is one clause of the definition.
 use mathlib.Core.Path.{refl}
-use borrow.Author.Rules.{rules}
 use Rattle.bunch_judging.specs.Standings.{displaced_bits}
 use Rattle.bunch_judging.proofs.inner.results.displaced_bits.Goals as goal
 

@@ -1,5 +1,4 @@
 -- The parts are those of the definition.
-use borrow.Author.Rules.{rules}
 use Rattle.bunch_judging.proofs.inner.results.failed.Goals as goal
 
 pub returns : goal.returns

@@ -1,6 +1,5 @@
 -- Three words are others, and the rest as it was.
 use Rattle.bunch_settling.proofs.Places.{three_stored}
-use borrow.Author.Rules.{rules}
 use Rattle.bunch_settling.proofs.inner.fragments.join_place.Goals as goal
 
 pub returns : goal.returns

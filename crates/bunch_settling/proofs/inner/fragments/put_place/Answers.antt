@@ -1,6 +1,5 @@
 -- A new message or the one that is held.
 use mathlib.Core.Path.{refl}
-use borrow.Author.Rules.{rules}
 use Rattle.bunch_settling.proofs.inner.fragments.put_place.Goals as goal
 
 pub returns-then-anew : goal.returns-then-anew

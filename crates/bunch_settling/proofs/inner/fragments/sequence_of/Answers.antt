@@ -4,7 +4,6 @@ use mir.Syntax.{w32}
 use mir.Val.{SFits, of_z}
 use mir.ValLaws.{to_z-of_z, of_z_fits}
 use Rattle.bunch_judging.specs.Fates.{sequence_word}
-use borrow.Author.Rules.{rules}
 use Rattle.bunch_settling.proofs.inner.fragments.sequence_of.Goals as goal
 
 pub returns : goal.returns

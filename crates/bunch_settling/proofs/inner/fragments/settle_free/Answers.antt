@@ -1,6 +1,5 @@
 -- What stays starts with the words and bytes that it means; else nothing changes.
 use Rattle.bunch_settling.proofs.Settles.{new_is, starting, staying}
-use borrow.Author.Rules.{rules}
 use Rattle.bunch_settling.proofs.inner.fragments.settle_free.Goals as goal
 
 pub returns-then-e : goal.returns-then-e

@@ -4,7 +4,6 @@ use native.Mathlib.Omega.{arith}
 use Rattle.bunch_settling.proofs.Numbers.{numbers}
 use Rattle.bunch_settling.proofs.Places.{place_long}
 use Rattle.bunch_settling.proofs.Settles.{stayed_is, changing, bits_after, joins_few, bytes_kept, bytes_room}
-use borrow.Author.Rules.{rules}
 use Rattle.bunch_settling.proofs.inner.fragments.settle_held.Goals as goal
 
 pub bytes_of-keep-requires : goal.bytes_of-keep-requires

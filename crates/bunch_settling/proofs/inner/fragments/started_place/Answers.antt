@@ -1,6 +1,5 @@
 -- The header's words behind the four of the message.
 use mathlib.Core.Path.{refl}
-use borrow.Author.Rules.{rules}
 use Rattle.bunch_settling.proofs.inner.fragments.started_place.Goals as goal
 
 pub returns : goal.returns

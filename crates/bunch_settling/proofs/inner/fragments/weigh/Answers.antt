@@ -1,6 +1,5 @@
 -- Each part is what its function ensures.
 use mathlib.Core.Path.{refl, ◌∙◌}
-use borrow.Author.Rules.{rules}
 use Rattle.bunch_settling.proofs.inner.fragments.weigh.Goals as goal
 
 pub returns : goal.returns

@@ -3,7 +3,6 @@ use Prim.Native.Nat.{ℕ}
 use mathlib.Core.Path.{refl, ap, ◌∙◌}
 use Rattle.bunch_places.specs.Bytes.{bytes_of}
 use Rattle.bunch_settling.proofs.Edits.{changed}
-use borrow.Author.Rules.{rules}
 use Rattle.bunch_settling.proofs.inner.messages.change_bytes.Goals as goal
 
 pub returns : goal.returns

@@ -2,7 +2,6 @@
 use native.Mathlib.Omega.{arith}
 use Rattle.bunch_settling.proofs.Numbers.{numbers}
 use Rattle.bunch_settling.proofs.Edits.{dropped}
-use borrow.Author.Rules.{rules}
 use Rattle.bunch_settling.proofs.inner.messages.drop_message.Goals as goal
 
 pub returns : goal.returns

@@ -1,7 +1,6 @@
 -- The payload goes behind what was copied to the front.
 use native.Mathlib.Omega.{arith}
 use Rattle.bunch_settling.proofs.Edits.{shown}
-use borrow.Author.Rules.{rules}
 use Rattle.bunch_settling.proofs.inner.messages.show.Goals as goal
 
 pub returns : goal.returns

@@ -2,7 +2,6 @@
 use native.Mathlib.Omega.{arith}
 use Rattle.bunch_settling.proofs.Numbers.{free_numbers}
 use Rattle.bunch_settling.proofs.Edits.{started}
-use borrow.Author.Rules.{rules}
 use Rattle.bunch_settling.proofs.inner.messages.start_message.Goals as goal
 
 pub returns : goal.returns
