@@ -1,6 +1,5 @@
 -- The two tests.
 use mathlib.Core.Path.{refl}
-use borrow.Author.Rules.{rules}
 use borrow.Author.Tests.{le-leb, lt-leb}
 use Rattle.field.proofs.walks.ended.Goals as goal
 

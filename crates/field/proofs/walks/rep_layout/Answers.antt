@@ -1,6 +1,5 @@
 -- The ignored bit, the walk, and what is left after its end.
 use mathlib.Core.Path.{ap, sym, ◌∙◌}
-use borrow.Author.Rules.{rules}
 use Rattle.bitio_window.specs.declared.Bit.{Bit}
 use Rattle.bitio_window.specs.Answers.{bit_answer}
 use Rattle.field_walking.specs.Records.{look}

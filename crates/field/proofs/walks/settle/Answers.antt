@@ -1,6 +1,5 @@
 -- Only an end is settled.
 use mathlib.Core.Path.{refl}
-use borrow.Author.Rules.{rules}
 use Rattle.field.proofs.walks.settle.Goals as goal
 
 pub returns-in-Ended : goal.returns-in-Ended
