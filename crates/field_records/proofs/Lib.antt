@@ -1,10 +1,4 @@
-pub mod Rows
 pub mod Filled
 pub mod Gives
 pub mod Kept
-pub mod Again
-pub mod Shared
-pub mod Filling
-pub mod Passing
-pub mod Layouts
 pub mod Determined

@@ -1,5 +1,6 @@
 // The record walks into a lent list of field records: what vrf-net/src/field.rs hands to its sink, in order.
 #![tactic(auto)]
+
 pub mod inner;
 pub mod walks;
 

@@ -1,6 +1,5 @@
 -- The four numbers of the place, each in its field.
 use mathlib.Core.Path.{refl}
-use borrow.Author.Rules.{rules}
 use Rattle.field_records.proofs.inner.record_at.Goals as goal
 
 pub returns : goal.returns

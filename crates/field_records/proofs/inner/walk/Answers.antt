@@ -2,7 +2,6 @@
 use Prim.Native.Nat.{ℕ}
 use mathlib.Core.Path.{◌≡◌}
 use mathlib.Core.List.{List}
-use borrow.Author.Rules.{rules}
 use Rattle.bitio_window.specs.declared.Window.{Window}
 use Rattle.field_walking.specs.Walks.{Walked}
 use Rattle.field_records.specs.declared.Stream.{Stream}

@@ -1,7 +1,6 @@
 -- The walk into a part of the numbers, as the walk into the whole list (proofs/Kept.antt).
 use mathlib.Core.Path.{sym}
 use native.Mathlib.Omega.{arith}
-use borrow.Author.Rules.{rules}
 use lib.Seq.{length-take-le}
 use Rattle.field_records.proofs.Kept.{walks_into, leaves_ready}
 use Rattle.field_records.proofs.inner.walk_numbers.Goals as goal
