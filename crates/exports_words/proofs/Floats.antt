@@ -1,15 +1,10 @@
 -- What a call leaves in a lent float: the number, where there is one; where the answer is none, what stood there.
 use mathlib.Core.Path.{◌≡◌, refl, sym, ap}
-use mathlib.Core.List.{[], ◌∷◌}
 use lib.Ieee.{Float}
-use denote.Enum.Declared as enums
-use types.Run.{OneOf, miss}
 use Rattle.bitio_window.specs.declared.Window.{Window}
 use Rattle.bitio_window.specs.declared.F32.{F32}
 use Rattle.bitio_window.specs.declared.F64.{F64}
 use Rattle.bitio_window.specs.Answers.{f32_answer, f64_answer}
-use Rattle.bitio_window.specs.contracts.F32 as Single
-use Rattle.bitio_window.specs.contracts.F64 as Double
 use Rattle.exports_words.specs.Words.{float}
 
 pub single : (before x : Float) (a : F32) (w : Window) → a ≡ F32.Value x → x ≡ float before (f32_answer a w)
@@ -20,14 +15,14 @@ pub double : (before x : Float) (a : F64) (w : Window) → a ≡ F64.Value x →
 unfolding float
 double before x a w e = sym (ap (λ (y : F64). float before (f64_answer y w)) e)
 
-pub no_single : (before : Float) (a : F32) (w : Window) → OneOf (1 ∷ 2 ∷ []) (enums.tag_of Single.the_type a) → before ≡ float before (f32_answer a w)
+pub no_single : (before : Float) (a : F32) (w : Window) → ((x : Float) → a ≡ F32.Value x → ⊥) → before ≡ float before (f32_answer a w)
 unfolding float
-no_single before (F32.Value x) w f = absurd (miss (1 ∷ 2 ∷ []) 0 tt f)
+no_single before (F32.Value x) w f = absurd (f x refl)
 no_single before (F32.NotANumber b) w f = refl
 no_single before (F32.Refused e) w f = refl
 
-pub no_double : (before : Float) (a : F64) (w : Window) → OneOf (1 ∷ 2 ∷ []) (enums.tag_of Double.the_type a) → before ≡ float before (f64_answer a w)
+pub no_double : (before : Float) (a : F64) (w : Window) → ((x : Float) → a ≡ F64.Value x → ⊥) → before ≡ float before (f64_answer a w)
 unfolding float
-no_double before (F64.Value x) w f = absurd (miss (1 ∷ 2 ∷ []) 0 tt f)
+no_double before (F64.Value x) w f = absurd (f x refl)
 no_double before (F64.NotANumber b) w f = refl
 no_double before (F64.Refused e) w f = refl

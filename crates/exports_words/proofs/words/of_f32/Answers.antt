@@ -1,6 +1,5 @@
 -- Each case, by what the match told.
 use Rattle.exports_words.specs.Words.{words}
-use borrow.Author.Rules.{rules}
 use Rattle.exports_words.proofs.words.of_f32.Goals as goal
 
 pub returns-in-Value : goal.returns-in-Value

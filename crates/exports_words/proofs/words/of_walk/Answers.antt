@@ -1,6 +1,5 @@
 -- The seven words of the stop, and the count.
 use mathlib.Core.Path.{◌∙◌}
-use borrow.Author.Rules.{rules}
 use Rattle.exports_words.specs.Walks.{stop_words}
 use Rattle.exports_words.proofs.Seven.{seven_words}
 use Rattle.exports_words.proofs.words.of_walk.Goals as goal

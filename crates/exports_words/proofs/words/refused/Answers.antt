@@ -1,6 +1,5 @@
 -- Each case, by what the match told.
 use Rattle.bitio_window.specs.Refusals.{too_few_bits, endless, too_large, zero_maximum, beyond, too_wide, too_long}
-use borrow.Author.Rules.{rules}
 use Rattle.exports_words.proofs.words.refused.Goals as goal
 
 pub returns-in-Eof : goal.returns-in-Eof

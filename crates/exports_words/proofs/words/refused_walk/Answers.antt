@@ -1,5 +1,4 @@
 -- Each case, by what the match told.
-use borrow.Author.Rules.{rules}
 use Rattle.bitio_window.specs.Refusals.{list_full, unresolved}
 use Rattle.exports_words.proofs.words.refused_walk.Goals as goal
 
