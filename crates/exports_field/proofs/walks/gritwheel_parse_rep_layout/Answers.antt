@@ -1,5 +1,4 @@
 -- The words of what the call answers, and what it left in the list.
-use borrow.Author.Rules.{rules}
 use Rattle.exports_field.proofs.Told.{told}
 use Rattle.exports_field.proofs.walks.gritwheel_parse_rep_layout.Goals as goal
 
