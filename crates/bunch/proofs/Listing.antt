@@ -7,7 +7,7 @@ use native.Mathlib.Omega.{arith}
 use lib.ListN.{length, get_or, take, drop, length-append, length-map, get_or-map}
 use lib.Seq.{length-take-le, take_all, take-suc, take-append_seam, drop-append_seam, drop-drop, get_or-take}
 use Rattle.tables.specs.Columns.{laid}
-use Rattle.tables.specs.Tables.{channels, values}
+use Rattle.tables.specs.Tables.{values}
 use Rattle.bunch_places.specs.Bytes.{pasted, part}
 use Rattle.bunch_places.specs.Packed.{joined}
 use Rattle.bunch_places.proofs.Packed.{start_within}

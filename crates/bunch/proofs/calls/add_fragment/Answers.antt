@@ -1,10 +1,8 @@
 -- Past the test the inner form gives the reply.
 use mathlib.Core.Path.{sym, ◌∙◌}
-use Rattle.bitio_window.specs.Refusals.{unsound}
 use Rattle.bunch_held.specs.Memory.{held_memory}
 use Rattle.bunch_held.specs.Steps.{adding}
 use Rattle.bunch_settling.proofs.Giving.{goes, ten, passed}
-use borrow.Author.Rules.{rules}
 use Rattle.bunch.proofs.calls.add_fragment.Goals as goal
 
 pub returns-in-Sound : goal.returns-in-Sound

@@ -3,7 +3,6 @@ use mathlib.Core.Path.{sym, ◌∙◌}
 use Rattle.bunch_held.specs.Memory.{held_memory}
 use Rattle.bunch_held.specs.Steps.{retiring, locally, local}
 use Rattle.bunch_settling.proofs.Giving.{goes, ten, passed}
-use borrow.Author.Rules.{rules}
 use Rattle.bunch.proofs.calls.retire_channel.Goals as goal
 
 pub returns-in-Sound : goal.returns-in-Sound

@@ -3,7 +3,6 @@ use Prim.Native.Nat.{ℕ}
 use mathlib.Core.Path.{◌≡◌, ap, ◌∙◌}
 use mathlib.Core.Bool.{true}
 use native.Mathlib.Omega.{arith}
-use borrow.Author.Rules.{rules}
 use Rattle.bitio_window.specs.Refusals.{output_short, too_few_places}
 use Rattle.bunch_held.specs.Memory.{held_memory}
 use Rattle.bunch_held.specs.Sound.{memory_sound}

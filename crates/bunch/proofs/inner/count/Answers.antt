@@ -1,9 +1,8 @@
 -- What the places before i show is counted: a turn is Counting's `turn`.
-use Prim.Native.Nat.{ℕ, ◌-◌, ◌≤◌}
+use Prim.Native.Nat.{ℕ}
 use mathlib.Core.Path.{◌≡◌, refl, ap, ◌∙◌}
 use native.Mathlib.Omega.{arith}
 use lib.ListN.{take}
-use borrow.Author.Rules.{rules}
 use Rattle.bunch_held.specs.Memory.{sum_of}
 use Rattle.bunch.specs.Shown.{shown_count, shown_size}
 use Rattle.bunch.proofs.Counting.{turn}

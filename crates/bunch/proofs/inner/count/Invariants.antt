@@ -1,11 +1,8 @@
-use Prim.Native.Nat.{ℕ, ◌-◌, ◌≤◌}
-use mathlib.Core.Path.{◌≡◌, refl, ap, ◌∙◌}
-use native.Mathlib.Omega.{arith}
+use Prim.Native.Nat.{◌-◌, ◌≤◌}
+use mathlib.Core.Path.{◌≡◌}
 use lib.ListN.{take}
-use borrow.Author.Rules.{rules}
 use Rattle.bunch_held.specs.Memory.{sum_of}
 use Rattle.bunch.specs.Shown.{shown_count, shown_size}
-use Rattle.bunch.proofs.Counting.{turn}
 use Rattle.bunch.proofs.inner.count.Given as goal
 
 abbrev pub invariant-loop-i : goal.invariant-loop-i

@@ -1,6 +1,5 @@
 -- The flag's word.
 use mathlib.Core.Path.{refl}
-use borrow.Author.Rules.{rules}
 use Rattle.bunch.proofs.inner.is_finished.Goals as goal
 
 pub returns : goal.returns

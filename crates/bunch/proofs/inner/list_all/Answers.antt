@@ -1,11 +1,10 @@
 -- The messages of the places before i are listed: a turn is Listing's `lists_next`.
-use Prim.Native.Nat.{suc, ◌+◌, ◌-◌, ◌≤◌, ◌<◌}
+use Prim.Native.Nat.{suc, ◌+◌, ◌<◌}
 use mathlib.Core.Path.{◌≡◌, refl}
 use native.Mathlib.Omega.{arith}
-use lib.ListN.{length, take}
 use borrow.Author.Rules.{rules}
-use Rattle.bunch_held.specs.Memory.{held_memory, sum_of, size_all, state_of}
-use Rattle.bunch.proofs.Listing.{Lists, lists_none, start_next, lists_next, Room, room, lists_all}
+use Rattle.bunch_held.specs.Memory.{held_memory, sum_of, state_of}
+use Rattle.bunch.proofs.Listing.{lists_none, start_next, lists_next, Room, room, lists_all}
 use Rattle.bunch.proofs.inner.list_all.Goals.{In-loop-i}
 use Rattle.bunch.proofs.inner.list_all.Goals as goal
 

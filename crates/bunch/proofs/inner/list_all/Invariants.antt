@@ -1,10 +1,8 @@
-use Prim.Native.Nat.{suc, ◌+◌, ◌-◌, ◌≤◌, ◌<◌}
-use mathlib.Core.Path.{◌≡◌, refl}
-use native.Mathlib.Omega.{arith}
+use Prim.Native.Nat.{◌-◌, ◌≤◌}
+use mathlib.Core.Path.{◌≡◌}
 use lib.ListN.{length, take}
-use borrow.Author.Rules.{rules}
-use Rattle.bunch_held.specs.Memory.{held_memory, sum_of, size_all, state_of}
-use Rattle.bunch.proofs.Listing.{Lists, lists_none, start_next, lists_next, Room, room, lists_all}
+use Rattle.bunch_held.specs.Memory.{held_memory, size_all, state_of}
+use Rattle.bunch.proofs.Listing.{Lists}
 use Rattle.bunch.proofs.inner.list_all.Given as goal
 
 abbrev pub invariant-loop-i : goal.invariant-loop-i

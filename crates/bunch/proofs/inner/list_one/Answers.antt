@@ -5,7 +5,6 @@ use mathlib.Core.Bool.{false}
 use mathlib.Core.List.{List, []}
 use native.Mathlib.Omega.{arith}
 use lib.ListN.{length, set}
-use borrow.Author.Rules.{rules}
 use Rattle.bunch_places.proofs.Pastes.{pasted_none, pasted_first}
 use Rattle.bunch_held.specs.Memory.{size_of}
 use Rattle.bunch.specs.Shown.{is_finished, shown_count, shown_size, shown_bytes, shown_place}

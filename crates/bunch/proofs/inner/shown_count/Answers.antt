@@ -1,6 +1,5 @@
 -- Both ways of the test.
 use mathlib.Core.Path.{sym, ◌∙◌}
-use borrow.Author.Rules.{rules}
 use Rattle.bunch.specs.Shown.{shown_count}
 use Rattle.bunch.proofs.inner.shown_count.Goals as goal
 

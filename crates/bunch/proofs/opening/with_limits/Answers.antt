@@ -7,7 +7,6 @@ use Rattle.bitio_window.specs.Parse.{value, refusal}
 use Rattle.bunch_held.specs.Memory.{HeldMemory, held_memory}
 use Rattle.bunch_held.specs.Sound.{fit}
 use Rattle.bunch.specs.Opening.{holding_nothing, opened_accumulator}
-use borrow.Author.Rules.{rules}
 use Rattle.bunch.proofs.opening.with_limits.Goals as goal
 
 module _ (active buffered : ℕ) (m : HeldMemory) {r : Bool} (tests : r ≡ fit active buffered m) where

@@ -1,6 +1,5 @@
 -- Each case, by what the matches told.
 use Rattle.exports_bunch_words.specs.Fragments.{fragment_words}
-use borrow.Author.Rules.{rules}
 use Rattle.exports_bunch_words.proofs.fragments.of_added.Goals as goal
 
 pub returns-in-Nothing : goal.returns-in-Nothing

@@ -1,6 +1,5 @@
 -- Word by word; the header and the cause by their own functions.
 use mathlib.Core.Path.{refl}
-use borrow.Author.Rules.{rules}
 use Rattle.exports_bunch_words.proofs.fragments.of_displaced.Goals as goal
 
 pub returns : goal.returns

@@ -1,6 +1,5 @@
 -- Word by word; the header, the limit and the kind by their own functions.
 use mathlib.Core.Path.{refl}
-use borrow.Author.Rules.{rules}
 use Rattle.exports_bunch_words.proofs.fragments.of_result.Goals as goal
 
 pub returns : goal.returns

@@ -1,7 +1,6 @@
 -- Each case, by what the match told.
 use mathlib.Core.Path.{refl}
 use Rattle.exports_bunch_words.specs.Handed.{handed_words}
-use borrow.Author.Rules.{rules}
 use Rattle.exports_bunch_words.proofs.taken.of_taken.Goals as goal
 
 pub returns-in-Message : goal.returns-in-Message

@@ -1,6 +1,5 @@
 -- Each case, by what the match told.
 use mathlib.Core.Path.{refl}
-use borrow.Author.Rules.{rules}
 use Rattle.bitio_window.specs.Refusals.{unsound, payload_too_long, payload_short, output_short, too_few_places}
 use Rattle.exports_bunch_words.proofs.taken.said.Goals as goal
 

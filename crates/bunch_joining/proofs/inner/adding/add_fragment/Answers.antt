@@ -4,7 +4,6 @@ use Rattle.bunch_held.specs.Memory.{held_memory}
 use Rattle.bunch_judging.specs.Held.{Fragment}
 use Rattle.bunch_joining.proofs.Joining.{always_same, gives_long, gives_few}
 use Rattle.bunch_joining.proofs.Meetings.{meetable, meets_few, met_at, weighs}
-use borrow.Author.Rules.{rules}
 use Rattle.bunch_joining.proofs.inner.adding.add_fragment.Goals as goal
 
 pub returns-then-bits-gt-MAX_PAYLOAD_BITS : goal.returns-then-bits-gt-MAX_PAYLOAD_BITS

@@ -9,7 +9,6 @@ use Rattle.bunch_held.proofs.Holding.{start_asks}
 use Rattle.bunch_held.proofs.Edits.{place_free}
 use Rattle.bunch_joining.proofs.Joining.{tells}
 use Rattle.bunch_joining.proofs.Absent.{few_shown, gives_short, lacks, result_none, gives_judged}
-use borrow.Author.Rules.{rules}
 use Rattle.bunch_joining.proofs.inner.adding.add_free.Goals as goal
 
 pub bytes_of-needed-requires : goal.bytes_of-needed-requires

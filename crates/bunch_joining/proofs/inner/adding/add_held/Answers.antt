@@ -11,7 +11,6 @@ use Rattle.bunch_held.proofs.Holding.{start_asks}
 use Rattle.bunch_settling.proofs.Numbers.{spot}
 use Rattle.bunch_joining.proofs.Joining.{tells}
 use Rattle.bunch_joining.proofs.There.{few_shown, gives_short, holds, gives_judged}
-use borrow.Author.Rules.{rules}
 use Rattle.bunch_joining.proofs.inner.adding.add_held.Goals as goal
 
 pub bytes_of-requires : goal.bytes_of-requires

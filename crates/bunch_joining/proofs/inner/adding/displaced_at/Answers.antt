@@ -1,7 +1,6 @@
 -- Where no byte is shown nothing is displaced.
 use mathlib.Core.Path.{refl}
 use Rattle.bunch_joining.proofs.Joining.{none_displaced}
-use borrow.Author.Rules.{rules}
 use Rattle.bunch_joining.proofs.inner.adding.displaced_at.Goals as goal
 
 pub returns-then-e : goal.returns-then-e

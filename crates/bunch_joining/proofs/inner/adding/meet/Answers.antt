@@ -6,7 +6,6 @@ use native.Mathlib.Omega.{arith}
 use Rattle.tables.specs.declared.Slot.{Slot}
 use Rattle.bunch_held.specs.declared.Accumulator.{Accumulator}
 use Rattle.bunch_joining.specs.Meetings.{Meetable}
-use borrow.Author.Rules.{rules}
 use Rattle.bunch_joining.proofs.inner.adding.meet.Goals as goal
 
 -- what is asked at a slot that is known

@@ -2,7 +2,6 @@
 use mathlib.Core.Path.{refl}
 use Rattle.bunch_held.specs.Memory.{bits_in_place}
 use Rattle.bunch_joining.proofs.There.{joins_few}
-use borrow.Author.Rules.{rules}
 use Rattle.bunch_joining.proofs.inner.adding.meet_held.Goals as goal
 
 pub passed-requires : goal.passed-requires

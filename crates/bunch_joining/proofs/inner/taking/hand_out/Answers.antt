@@ -3,7 +3,6 @@ use native.Mathlib.Omega.{arith}
 use Rattle.bunch_held.proofs.Holding.{start_asks}
 use Rattle.bunch_settling.proofs.Numbers.{spot}
 use Rattle.bunch_joining.proofs.Handing.{gives_short, gives_message}
-use borrow.Author.Rules.{rules}
 use Rattle.bunch_joining.proofs.inner.taking.hand_out.Goals as goal
 
 pub returns-then-output-n : goal.returns-then-output-n

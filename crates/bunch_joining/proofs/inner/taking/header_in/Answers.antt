@@ -1,7 +1,6 @@
 -- The header that the words say.
 use mathlib.Core.Path.{◌∙◌, ap}
 use Rattle.words.specs.Words.{header_from}
-use borrow.Author.Rules.{rules}
 use Rattle.bunch_joining.proofs.inner.taking.header_in.Goals as goal
 
 pub returns : goal.returns

@@ -1,7 +1,6 @@
 -- The slot that was found decides.
 use mathlib.Core.Path.{sym, ◌∙◌}
 use Rattle.bunch_joining.proofs.Handing.{retired_nothing}
-use borrow.Author.Rules.{rules}
 use Rattle.bunch_joining.proofs.inner.taking.retire_channel.Goals as goal
 
 pub hand_out-requires : goal.hand_out-requires

@@ -3,7 +3,6 @@ use mathlib.Core.Path.{sym, ◌∙◌}
 use native.Mathlib.Omega.{arith}
 use Rattle.bunch_settling.proofs.Numbers.{spot}
 use Rattle.bunch_joining.proofs.Handing.{taken_finished, taken_not, taken_nothing}
-use borrow.Author.Rules.{rules}
 use Rattle.bunch_joining.proofs.inner.taking.take_completed.Goals as goal
 
 pub returns-then-p-eq1 : goal.returns-then-p-eq1
