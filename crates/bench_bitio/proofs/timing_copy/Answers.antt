@@ -1,8 +1,7 @@
 -- One law for each way through the loop.
-use Rattle.std.proofs.Common.{◌≡◌, ◌-◌, ◌≤◌, length, refl, arith, rules}
+use Rattle.std.proofs.Common.{refl, arith, rules}
 use Rattle.bitio_window.specs.Copies.{copy_leaves}
-use Rattle.bench_bitio.specs.Sums.{copies_made}
-use Rattle.bench_bitio.proofs.Rows.{Copying, no_copy, copies, stays, copied_all}
+use Rattle.bench_bitio.proofs.Rows.{no_copy, copies, stays, copied_all}
 use Rattle.bench_bitio.proofs.timing_copy.Goals as goal
 
 pub returns-in-Refused : goal.returns-in-Refused

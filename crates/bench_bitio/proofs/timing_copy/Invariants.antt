@@ -1,7 +1,6 @@
-use Rattle.std.proofs.Common.{◌≡◌, ◌-◌, ◌≤◌, length, refl, arith, rules}
-use Rattle.bitio_window.specs.Copies.{copy_leaves}
+use Rattle.std.proofs.Common.{◌≡◌, ◌-◌, ◌≤◌, length}
 use Rattle.bench_bitio.specs.Sums.{copies_made}
-use Rattle.bench_bitio.proofs.Rows.{Copying, no_copy, copies, stays, copied_all}
+use Rattle.bench_bitio.proofs.Rows.{Copying}
 use Rattle.bench_bitio.proofs.timing_copy.Given as goal
 
 abbrev pub invariant-loop-k : goal.invariant-loop-k

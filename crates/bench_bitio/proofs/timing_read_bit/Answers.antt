@@ -1,9 +1,6 @@
 -- One law for each way through the loop.
-use Rattle.std.proofs.Common.{◌-◌, rules}
-use mir.Val.{bool_byte}
-use Rattle.bitio_window.specs.Reads.{read_bit}
-use Rattle.bench_bitio.specs.Sums.{bit_sum}
-use Rattle.bench_bitio.proofs.Rows.{Summing, no_sum, adds, ends, summed}
+use Rattle.std.proofs.Common.{rules}
+use Rattle.bench_bitio.proofs.Rows.{no_sum, adds, ends, summed}
 use Rattle.bench_bitio.proofs.timing_read_bit.Goals as goal
 
 pub returns-in-Refused : goal.returns-in-Refused

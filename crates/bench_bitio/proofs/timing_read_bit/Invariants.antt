@@ -1,8 +1,8 @@
-use Rattle.std.proofs.Common.{◌-◌, rules}
+use Rattle.std.proofs.Common.{◌-◌}
 use mir.Val.{bool_byte}
 use Rattle.bitio_window.specs.Reads.{read_bit}
 use Rattle.bench_bitio.specs.Sums.{bit_sum}
-use Rattle.bench_bitio.proofs.Rows.{Summing, no_sum, adds, ends, summed}
+use Rattle.bench_bitio.proofs.Rows.{Summing}
 use Rattle.bench_bitio.proofs.timing_read_bit.Given as goal
 
 abbrev pub invariant-loop-k : goal.invariant-loop-k

@@ -1,8 +1,6 @@
 -- One law for each way through the loop.
-use Rattle.std.proofs.Common.{◌-◌, rules}
-use Rattle.bitio_window.specs.Numbers.{read_packed}
-use Rattle.bench_bitio.specs.Sums.{packed_sum}
-use Rattle.bench_bitio.proofs.Rows.{Summing, no_sum, adds, ends, summed}
+use Rattle.std.proofs.Common.{rules}
+use Rattle.bench_bitio.proofs.Rows.{no_sum, adds, ends, summed}
 use Rattle.bench_bitio.proofs.timing_read_int_packed.Goals as goal
 
 pub returns-in-Refused : goal.returns-in-Refused

@@ -1,7 +1,7 @@
-use Rattle.std.proofs.Common.{◌-◌, length, get_or, rules}
+use Rattle.std.proofs.Common.{◌-◌, length, get_or}
 use Rattle.bitio_window.specs.Numbers.{read_serialized}
 use Rattle.bench_bitio.specs.Sums.{serialized_sum}
-use Rattle.bench_bitio.proofs.Rows.{Summing, no_sum, adds, ends, summed}
+use Rattle.bench_bitio.proofs.Rows.{Summing}
 use Rattle.bench_bitio.proofs.timing_read_serialized_int.Given as goal
 
 abbrev pub invariant-loop-k : goal.invariant-loop-k

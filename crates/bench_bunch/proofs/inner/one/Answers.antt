@@ -1,5 +1,5 @@
 -- One call, or two.
-use Rattle.std.proofs.Common.{◌∙◌, rules}
+use Rattle.std.proofs.Common.{◌∙◌}
 use Rattle.bunch_held.specs.Memory.{held_memory}
 use Rattle.bench_bunch.specs.Chains.{run}
 use Rattle.bench_bunch.proofs.Turning.{goes_on, ends}

@@ -2,7 +2,6 @@
 use Rattle.bunch_held.specs.Memory.{held_memory}
 use Rattle.bunch_held.specs.Steps.{taking, locally, local}
 use Rattle.bench_bunch.proofs.Turning.{calls}
-use Rattle.std.proofs.Common.{rules}
 use Rattle.bench_bunch.proofs.inner.take.Goals as goal
 
 pub returns : goal.returns

@@ -1,8 +1,7 @@
 -- What is still to come is what the whole comes to, over memory that the next turn can go on with.
-use Rattle.std.proofs.Common.{◌≡◌, ℕ, ◌+◌, ◌-◌, ◌*◌, ◌%◌, List, [], ◌∷◌, length, get_or, sym, refl, ap, ◌∙◌, arith, rules}
+use Rattle.std.proofs.Common.{◌≡◌, ◌+◌, ◌-◌, ◌*◌, ◌%◌, [], ◌∷◌, length, sym, refl, ap, ◌∙◌, arith, rules}
 use Rattle.bunch_held.specs.Memory.{held_memory}
-use Rattle.bunch_settling.specs.Settling.{Using}
-use Rattle.bench_bunch.specs.Chains.{Run, run, turn, turns, timed_payload, chains}
+use Rattle.bench_bunch.specs.Chains.{Run, run}
 use Rattle.bench_bunch.proofs.Running.{turn_after, turns_end, turns_begin}
 use Rattle.bench_bunch.proofs.inner.timing_chains.Invariants.{going}
 use Rattle.bench_bunch.proofs.inner.timing_chains.Goals as goal

@@ -1,6 +1,5 @@
 -- The words from number k on are to come.
-use Rattle.std.proofs.Common.{◌≡◌, ◌-◌, length, drop, refl, rules}
-use Rattle.bench_bunch.specs.Chains.{summed}
+use Rattle.std.proofs.Common.{refl, rules}
 use Rattle.bench_bunch.proofs.Running.{sum_on, sum_ends}
 use Rattle.bench_bunch.proofs.inner.total.Goals as goal
 

@@ -1,6 +1,5 @@
-use Rattle.std.proofs.Common.{◌≡◌, ◌-◌, length, drop, refl, rules}
+use Rattle.std.proofs.Common.{◌≡◌, ◌-◌, length, drop}
 use Rattle.bench_bunch.specs.Chains.{summed}
-use Rattle.bench_bunch.proofs.Running.{sum_on, sum_ends}
 use Rattle.bench_bunch.proofs.inner.total.Given as goal
 
 abbrev pub invariant-loop-k : goal.invariant-loop-k

@@ -1,5 +1,5 @@
 -- The words of what is answered.
-use Rattle.std.proofs.Common.{sym, refl, rules}
+use Rattle.std.proofs.Common.{sym, refl}
 use Rattle.bench_bunch.specs.Chains.{summed}
 use Rattle.bench_bunch.proofs.inner.with_added.Goals as goal
 

@@ -1,5 +1,5 @@
 -- The words of what is handed out.
-use Rattle.std.proofs.Common.{refl, rules}
+use Rattle.std.proofs.Common.{refl}
 use Rattle.bench_bunch.specs.Chains.{summed}
 use Rattle.bench_bunch.proofs.Running.{one_more}
 use Rattle.bench_bunch.proofs.inner.with_taken.Goals as goal

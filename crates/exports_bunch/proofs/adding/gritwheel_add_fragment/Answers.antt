@@ -1,6 +1,5 @@
 -- The words of what the call answers, and what it left in the lent memory.
 use Rattle.exports_bunch.proofs.Told.{told_added}
-use borrow.Author.Rules.{rules}
 use Rattle.exports_bunch.proofs.adding.gritwheel_add_fragment.Goals as goal
 
 pub returns : goal.returns

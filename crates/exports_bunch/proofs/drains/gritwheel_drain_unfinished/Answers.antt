@@ -7,7 +7,6 @@ use Rattle.bunch_held.proofs.Holding.{start_asks}
 use Rattle.bunch.proofs.DrainCalls.{bytes_are}
 use Rattle.exports_bunch.specs.Drained.{shown_byte_count}
 use Rattle.exports_bunch.proofs.Draining.{was_sound, told_lists, told_refuses}
-use borrow.Author.Rules.{rules}
 use Rattle.exports_bunch.proofs.drains.gritwheel_drain_unfinished.Goals as goal
 
 pub count-wanted-requires : goal.count-wanted-requires

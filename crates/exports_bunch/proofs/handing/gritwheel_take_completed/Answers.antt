@@ -1,6 +1,5 @@
 -- The words of what the call answers, and what it left in the lent memory.
 use Rattle.exports_bunch.proofs.Told.{told_taken}
-use borrow.Author.Rules.{rules}
 use Rattle.exports_bunch.proofs.handing.gritwheel_take_completed.Goals as goal
 
 pub returns : goal.returns

@@ -1,7 +1,6 @@
 -- The words of what the call answers.
 use mathlib.Core.Path.{ap, ◌∙◌}
 use Rattle.exports_bunch.specs.Opening.{limits_words}
-use borrow.Author.Rules.{rules}
 use Rattle.exports_bunch.proofs.opening.gritwheel_with_limits.Goals as goal
 
 pub returns : goal.returns

@@ -2,7 +2,6 @@
 use mathlib.Core.Path.{refl}
 use Rattle.bitio_window.specs.Refusals.{unfit}
 use Rattle.exports_bunch.specs.Opening.{limits_words}
-use borrow.Author.Rules.{rules}
 use Rattle.exports_bunch.proofs.opening.of_opened.Goals as goal
 
 pub returns-in-Value : goal.returns-in-Value
