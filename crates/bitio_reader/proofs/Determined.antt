@@ -5,6 +5,15 @@ use mathlib.Core.List.{List}
 use lib.ListN.{length}
 use Rattle.bitio_window.specs.declared.Window.{Window}
 use Rattle.bitio_window.specs.declared.Done.{Done}
+use Rattle.bitio_window.specs.declared.DoneRead.{DoneRead}
+use Rattle.bitio_window.specs.declared.BitRead.{BitRead}
+use Rattle.bitio_window.specs.declared.U8Read.{U8Read}
+use Rattle.bitio_window.specs.declared.U16Read.{U16Read}
+use Rattle.bitio_window.specs.declared.U32Read.{U32Read}
+use Rattle.bitio_window.specs.declared.I32Read.{I32Read}
+use Rattle.bitio_window.specs.declared.U64Read.{U64Read}
+use Rattle.bitio_window.specs.declared.F32Read.{F32Read}
+use Rattle.bitio_window.specs.declared.F64Read.{F64Read}
 use Rattle.bitio_window.specs.Answers.{done_answer, bit_answer, u8_answer, u16_answer, u32_answer, i32_answer, u64_answer, f32_answer, f64_answer}
 use Rattle.bitio_window.specs.Parse.{Answer, Result, Parse}
 use Rattle.bitio_window.specs.Copies.{copy_bits}
@@ -13,50 +22,59 @@ use Rattle.bitio_reader.specs.declared.BitReader.{BitReader}
 use Rattle.bitio_reader.specs.declared.Opening.{Opening}
 use Rattle.bitio_reader.specs.Readers.{window_of, Moved, Copied}
 use Rattle.bitio_reader.specs.Openings.{opened_answer, OpensTo, Cuts, HandsOut}
-use Rattle.bitio_reader.proofs.Answers.{Kind}
-use Rattle.bitio_reader.proofs.Calls as calls
 
 -- a reader is its packet and its window
 pub reader_determined : (r s : BitReader) → r.packet ≡ s.packet → window_of r ≡ window_of s → r ≡ s
 reader_determined r s p w = λ i. record { packet = p i; start = (w i).start; position = (w i).position; length = (w i).length }
 
 -- a read leaves one answer and one reader
-abbrev pub OneRead : (k : Kind) {A : Type 0} → (k.enum.D → Window → Answer A) → Type 0
-OneRead k {A} of = (p : Parse A) (before : BitReader) (a b : k.enum.D) (after other : BitReader) → Moved of p before a after → Moved of p before b other → (a ≡ b) × (after ≡ other)
+abbrev pub OneRead : {A B : Type 0} → (B → Window → Answer A) → Type 0
+OneRead {A} {B} of = (p : Parse A) (before : BitReader) (a b : B) (after other : BitReader) → Moved of p before a after → Moved of p before b other → (a ≡ b) × (after ≡ other)
 
-read_determined : (k : Kind) {A : Type 0} (of : k.enum.D → Window → Answer A) → ((r s : k.Got) → of (k.answer r) (k.next r) ≡ of (k.answer s) (k.next s) → r ≡ s) → OneRead k of
-read_determined k of one p before a b after other m n =
-    let v = k.makes a (window_of after) in
-    let w = k.makes b (window_of other) in
-    let e : k.make a (window_of after) ≡ k.make b (window_of other) = one (k.make a (window_of after)) (k.make b (window_of other)) (rw (v.0, v.1, w.0, w.1) (m.0 ∙ sym n.0)) in
-    (sym v.0 ∙ ap k.answer e ∙ w.0, reader_determined after other (m.1 ∙ sym n.1) (sym v.1 ∙ ap k.next e ∙ w.1))
+pub done_read : OneRead done_answer
+done_read p before a b after other m n =
+    let e = done_determined (record { answer = a; next = window_of after }) (record { answer = b; next = window_of other }) (m.0 ∙ sym n.0) in
+    (ap (λ (r : DoneRead). r.answer) e, reader_determined after other (m.1 ∙ sym n.1) (ap (λ (r : DoneRead). r.next) e))
 
-pub done_read : OneRead calls.done done_answer
-done_read = read_determined calls.done done_answer done_determined
+pub bit_read : OneRead bit_answer
+bit_read p before a b after other m n =
+    let e = bit_determined (record { answer = a; next = window_of after }) (record { answer = b; next = window_of other }) (m.0 ∙ sym n.0) in
+    (ap (λ (r : BitRead). r.answer) e, reader_determined after other (m.1 ∙ sym n.1) (ap (λ (r : BitRead). r.next) e))
 
-pub bit_read : OneRead calls.bit bit_answer
-bit_read = read_determined calls.bit bit_answer bit_determined
+pub u8_read : OneRead u8_answer
+u8_read p before a b after other m n =
+    let e = u8_determined (record { answer = a; next = window_of after }) (record { answer = b; next = window_of other }) (m.0 ∙ sym n.0) in
+    (ap (λ (r : U8Read). r.answer) e, reader_determined after other (m.1 ∙ sym n.1) (ap (λ (r : U8Read). r.next) e))
 
-pub u8_read : OneRead calls.u8 u8_answer
-u8_read = read_determined calls.u8 u8_answer u8_determined
+pub u16_read : OneRead u16_answer
+u16_read p before a b after other m n =
+    let e = u16_determined (record { answer = a; next = window_of after }) (record { answer = b; next = window_of other }) (m.0 ∙ sym n.0) in
+    (ap (λ (r : U16Read). r.answer) e, reader_determined after other (m.1 ∙ sym n.1) (ap (λ (r : U16Read). r.next) e))
 
-pub u16_read : OneRead calls.u16 u16_answer
-u16_read = read_determined calls.u16 u16_answer u16_determined
+pub u32_read : OneRead u32_answer
+u32_read p before a b after other m n =
+    let e = u32_determined (record { answer = a; next = window_of after }) (record { answer = b; next = window_of other }) (m.0 ∙ sym n.0) in
+    (ap (λ (r : U32Read). r.answer) e, reader_determined after other (m.1 ∙ sym n.1) (ap (λ (r : U32Read). r.next) e))
 
-pub u32_read : OneRead calls.u32 u32_answer
-u32_read = read_determined calls.u32 u32_answer u32_determined
+pub i32_read : OneRead i32_answer
+i32_read p before a b after other m n =
+    let e = i32_determined (record { answer = a; next = window_of after }) (record { answer = b; next = window_of other }) (m.0 ∙ sym n.0) in
+    (ap (λ (r : I32Read). r.answer) e, reader_determined after other (m.1 ∙ sym n.1) (ap (λ (r : I32Read). r.next) e))
 
-pub i32_read : OneRead calls.i32 i32_answer
-i32_read = read_determined calls.i32 i32_answer i32_determined
+pub u64_read : OneRead u64_answer
+u64_read p before a b after other m n =
+    let e = u64_determined (record { answer = a; next = window_of after }) (record { answer = b; next = window_of other }) (m.0 ∙ sym n.0) in
+    (ap (λ (r : U64Read). r.answer) e, reader_determined after other (m.1 ∙ sym n.1) (ap (λ (r : U64Read). r.next) e))
 
-pub u64_read : OneRead calls.u64 u64_answer
-u64_read = read_determined calls.u64 u64_answer u64_determined
+pub f32_read : OneRead f32_answer
+f32_read p before a b after other m n =
+    let e = f32_determined (record { answer = a; next = window_of after }) (record { answer = b; next = window_of other }) (m.0 ∙ sym n.0) in
+    (ap (λ (r : F32Read). r.answer) e, reader_determined after other (m.1 ∙ sym n.1) (ap (λ (r : F32Read). r.next) e))
 
-pub f32_read : OneRead calls.f32 f32_answer
-f32_read = read_determined calls.f32 f32_answer f32_determined
-
-pub f64_read : OneRead calls.f64 f64_answer
-f64_read = read_determined calls.f64 f64_answer f64_determined
+pub f64_read : OneRead f64_answer
+f64_read p before a b after other m n =
+    let e = f64_determined (record { answer = a; next = window_of after }) (record { answer = b; next = window_of other }) (m.0 ∙ sym n.0) in
+    (ap (λ (r : F64Read). r.answer) e, reader_determined after other (m.1 ∙ sym n.1) (ap (λ (r : F64Read). r.next) e))
 
 -- a copy leaves one target besides
 pub copy_determined : (n : ℕ) (before : BitReader) (target : List ℕ) (a b : Done) (after other : BitReader) (left right : List ℕ)

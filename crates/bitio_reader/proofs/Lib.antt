@@ -1,14 +1,1 @@
-pub mod Places
-pub mod Answers
-pub mod Calls
-pub mod Borrowed
-pub mod Calling
-pub mod Asking
-pub mod Telling
-pub mod Handing
-pub mod Opens
-pub mod Apart
-pub mod Lent
-pub mod Looking
-pub mod Through
 pub mod Determined

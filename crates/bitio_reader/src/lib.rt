@@ -1,5 +1,6 @@
 // A bit reader that keeps its packet's slice with its place in it. Follows `BitReader` of vrf-bitio/src/lib.rs.
 #![tactic(auto)]
+
 use bitio_window::{Done, PacketBit, WindowBit};
 
 pub mod copies;

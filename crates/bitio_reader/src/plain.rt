@@ -4,7 +4,8 @@ ghost use Rattle.bitio_window.specs.Places.{packet_bit};
 ghost use Rattle.bitio_window.specs.Reads.{read_bit, read_bits, read_i32, read_f32, read_f64};
 ghost use Rattle.bitio_window.specs.Numbers.{read_packed, read_serialized};
 ghost use Rattle.bitio_window.specs.Windows.{new_window, with_bit_len, bits_remaining, at_end, sub_reader, skip_bits, skip_remaining};
-ghost use Rattle.bitio_window.specs.Answers.{of_opened, of_count, of_sub, of_done, of_bit, of_u8, of_u16, of_u32, of_i32, of_u64, of_f32, of_f64};
+ghost use Rattle.bitio_window.specs.Answers.{of_opened, of_count, of_sub, of_done};
+ghost use Rattle.bitio_window.specs.Answers.{of_bit, of_u8, of_u16, of_u32, of_i32, of_u64, of_f32, of_f64};
 ghost use Rattle.bitio_window.specs.Copies.{copy_bits, copy_leaves};
 ghost use Rattle.bitio_reader.specs.Openings.{opened_answer, OpensTo, Cuts};
 
