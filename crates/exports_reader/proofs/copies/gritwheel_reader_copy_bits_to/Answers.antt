@@ -1,7 +1,6 @@
 -- The words of what the call answers, and what it left in the target.
 use mathlib.Core.Path.{ap, ◌∙◌}
 use Rattle.exports_words.specs.Words.{words, none}
-use borrow.Author.Rules.{rules}
 use Rattle.exports_reader.proofs.copies.gritwheel_reader_copy_bits_to.Goals as goal
 
 pub returns : goal.returns

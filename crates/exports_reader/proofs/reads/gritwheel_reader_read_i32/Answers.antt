@@ -1,6 +1,5 @@
 -- The words of what the call answers.
 use mathlib.Core.Path.{◌∙◌}
-use borrow.Author.Rules.{rules}
 use Rattle.exports_reader.proofs.reads.gritwheel_reader_read_i32.Goals as goal
 
 pub returns : goal.returns

@@ -1,6 +1,5 @@
 -- The words of what the call answers.
 use mathlib.Core.Path.{◌∙◌}
-use borrow.Author.Rules.{rules}
 use Rattle.exports_reader.proofs.windows.gritwheel_reader_bits_remaining.Goals as goal
 
 pub returns : goal.returns

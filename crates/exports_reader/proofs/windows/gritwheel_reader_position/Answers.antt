@@ -1,7 +1,6 @@
 -- The position of the window that was made.
 use mathlib.Core.Path.{ap, ◌∙◌}
 use Rattle.bitio_window.specs.declared.Window.{Window}
-use borrow.Author.Rules.{rules}
 use Rattle.exports_reader.proofs.windows.gritwheel_reader_position.Goals as goal
 
 pub returns : goal.returns
