@@ -1,6 +1,7 @@
 // Many reads in one call, for bench/ to time: through the reader that keeps its slice. In a library of its own: beside it the loops of
 // bench_bitio are compiled otherwise.
 #![tactic(auto)]
+
 ghost use Rattle.std.specs.Prelude.{◌≡◌};
 ghost use Rattle.bitio_window.specs.Windows.{window_at};
 ghost use Rattle.bench_bitio.specs.Sums.{bits_sum, packed_sum};

@@ -1,7 +1,7 @@
-use Rattle.std.proofs.Common.{◌-◌, length, get_or, rules}
+use Rattle.std.proofs.Common.{◌-◌, length, get_or}
 use Rattle.bitio_window.specs.Reads.{read_bits}
 use Rattle.bench_bitio.specs.Sums.{bits_sum}
-use Rattle.bench_bitio.proofs.Rows.{Summing, no_sum, adds, ends, summed}
+use Rattle.bench_bitio.proofs.Rows.{Summing}
 use Rattle.bench_reader.proofs.timing_reader_read_bits.Given as goal
 
 abbrev pub invariant-loop-k : goal.invariant-loop-k

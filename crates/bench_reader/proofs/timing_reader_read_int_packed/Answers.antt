@@ -1,8 +1,6 @@
 -- One law for each way through the loop.
-use Rattle.std.proofs.Common.{◌-◌, rules}
-use Rattle.bitio_window.specs.Numbers.{read_packed}
-use Rattle.bench_bitio.specs.Sums.{packed_sum}
-use Rattle.bench_bitio.proofs.Rows.{Summing, no_sum, adds, ends, summed}
+use Rattle.std.proofs.Common.{rules}
+use Rattle.bench_bitio.proofs.Rows.{no_sum, adds, ends, summed}
 use Rattle.bench_reader.proofs.timing_reader_read_int_packed.Goals as goal
 
 pub returns-in-Refused : goal.returns-in-Refused
@@ -10,7 +8,7 @@ returns-in-Refused c = ends c.loop-k.invariant (search rules) (rw c.in-Refused.i
 
 pub loop-k-preserved : goal.loop-k-preserved
 loop-k-preserved c =
-    rw c.wrapping_add_u64-sum.ensures
+    rw c.wrapping_add_u64-sum.ensures.value
     (adds c.loop-k.invariant (search rules) (rw c.in-Value.is at c.read_int_packed-read.ensures))
 
 pub loop-k-init : goal.loop-k-init

@@ -1,7 +1,7 @@
-use Rattle.std.proofs.Common.{◌-◌, rules}
+use Rattle.std.proofs.Common.{◌-◌}
 use Rattle.bitio_window.specs.Numbers.{read_packed}
 use Rattle.bench_bitio.specs.Sums.{packed_sum}
-use Rattle.bench_bitio.proofs.Rows.{Summing, no_sum, adds, ends, summed}
+use Rattle.bench_bitio.proofs.Rows.{Summing}
 use Rattle.bench_reader.proofs.timing_reader_read_int_packed.Given as goal
 
 abbrev pub invariant-loop-k : goal.invariant-loop-k
