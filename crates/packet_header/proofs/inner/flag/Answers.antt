@@ -6,7 +6,6 @@ use Rattle.bitio_window.specs.Answers.{bit_answer}
 use Rattle.bitio_window.specs.Reads.{bit}
 use Rattle.packet_header.specs.Row.{row_after}
 use Rattle.packet_header.proofs.Rows.{skips, takes}
-use borrow.Author.Rules.{rules}
 use Rattle.packet_header.proofs.inner.flag.Goals as goal
 
 pub returns-then-row-wanted : goal.returns-then-row-wanted

@@ -3,7 +3,6 @@ use mathlib.Core.Path.{refl, sym, ap}
 use Rattle.bitio_window.specs.declared.U32.{U32}
 use Rattle.bitio_window.specs.Answers.{u32_answer}
 use Rattle.packet_header.specs.Row.{row_after}
-use borrow.Author.Rules.{rules}
 use Rattle.packet_header.proofs.inner.number.Goals as goal
 
 pub returns-in-Value : goal.returns-in-Value

@@ -1,6 +1,5 @@
 -- Where the bits used were there the word's fields are the header's; else the row reads it.
 use native.Mathlib.Omega.{arith}
-use borrow.Author.Rules.{rules}
 use Rattle.packet_header.specs.Header.{fields}
 use Rattle.packet_header.specs.Word.{Within}
 use Rattle.packet_header.proofs.Words.{tested, header_reads}

@@ -4,7 +4,6 @@ use mathlib.Core.Bool.{false}
 use Rattle.types.specs.Types.{close_reason_maximum}
 use Rattle.packet_header.specs.Header.{fields}
 use Rattle.packet_header.proofs.Rows.{begins, step, step_on, ends}
-use borrow.Author.Rules.{rules}
 use Rattle.packet_header.proofs.inner.read_row.Goals as goal
 
 pub returns : goal.returns

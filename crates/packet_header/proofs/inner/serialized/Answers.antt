@@ -3,7 +3,6 @@ use mathlib.Core.Path.{sym, ap, ◌∙◌}
 use Rattle.bitio_window.specs.Numbers.{serialized}
 use Rattle.packet_header.specs.Row.{row_after}
 use Rattle.packet_header.proofs.Rows.{skips, takes}
-use borrow.Author.Rules.{rules}
 use Rattle.packet_header.proofs.inner.serialized.Goals as goal
 
 pub returns-then-row-wanted : goal.returns-then-row-wanted

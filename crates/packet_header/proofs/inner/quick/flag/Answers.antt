@@ -1,6 +1,5 @@
 -- The law of a flag of the word.
 use native.Mathlib.Omega.{arith}
-use borrow.Author.Rules.{rules}
 use Rattle.packet_header.proofs.Words.{flag_reads}
 use Rattle.packet_header.proofs.inner.quick.flag.Goals as goal
 

@@ -1,7 +1,6 @@
 -- The law of a packed number in the word.
 use mathlib.Core.Path.{refl}
 use native.Mathlib.Omega.{arith}
-use borrow.Author.Rules.{rules}
 use Rattle.packet_header.proofs.Words.{packed_reads}
 use Rattle.packet_header.proofs.inner.quick.packed.Goals as goal
 

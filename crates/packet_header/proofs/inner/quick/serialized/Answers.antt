@@ -2,7 +2,6 @@
 use Prim.Native.Nat.{◌^◌, ◌≤◌}
 use native.Mathlib.Omega.{arith}
 use lib.Pow.{pow_mono}
-use borrow.Author.Rules.{rules}
 use Rattle.packet_header.proofs.Words.{serialized_reads}
 use Rattle.packet_header.proofs.inner.quick.serialized.Goals as goal
 
