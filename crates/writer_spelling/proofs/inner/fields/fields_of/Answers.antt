@@ -1,6 +1,5 @@
 -- The reason's number is its raw number; the other fields are the header's.
 use mathlib.Core.Path.{refl}
-use borrow.Author.Rules.{rules}
 use Rattle.writer_spelling.specs.Header.{fields_of}
 use Rattle.writer_spelling.proofs.inner.fields.fields_of.Goals as goal
 

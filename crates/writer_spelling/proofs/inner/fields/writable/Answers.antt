@@ -1,6 +1,5 @@
 -- The tests of document 01 one after the other.
 use mathlib.Core.Path.{refl}
-use borrow.Author.Rules.{rules}
 use Rattle.writer_spelling.specs.Header.{writable}
 use Rattle.writer_spelling.proofs.inner.fields.writable.Goals as goal
 

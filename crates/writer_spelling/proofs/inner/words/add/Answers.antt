@@ -2,7 +2,6 @@
 use Prim.Native.Nat.{◌+◌, ◌^◌, ◌≤◌}
 use native.Mathlib.Omega.{arith}
 use lib.Pow.{pow_mono, shl_exact}
-use borrow.Author.Rules.{rules}
 use Rattle.writer_spelling.proofs.Spelling.{adds}
 use Rattle.writer_spelling.proofs.inner.words.add.Goals as goal
 

@@ -1,7 +1,6 @@
 -- Both numbers are as the bits that are wanted.
 use native.Mathlib.Omega.{arith}
 use Rattle.writer_spelling.proofs.Spelling.{none_wide, wants}
-use borrow.Author.Rules.{rules}
 use Rattle.writer_spelling.proofs.inner.words.add_if.Goals as goal
 
 pub add-requires : goal.add-requires

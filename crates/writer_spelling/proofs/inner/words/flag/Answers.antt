@@ -1,6 +1,5 @@
 -- A flag is a number of one bit.
 use Rattle.writer_spelling.proofs.Spelling.{flag_bits}
-use borrow.Author.Rules.{rules}
 use Rattle.writer_spelling.proofs.inner.words.flag.Goals as goal
 
 pub returns : goal.returns

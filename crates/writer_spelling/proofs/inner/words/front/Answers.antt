@@ -1,7 +1,6 @@
 -- A line for each field up to the channel.
 use Prim.Native.Nat.{ℕ, ◌≤◌}
 use native.Mathlib.Omega.{arith}
-use borrow.Author.Rules.{rules}
 use Rattle.bitio_window.specs.Widths.{serialized_width}
 use Rattle.bitio_window.proofs.Widths.{width_most}
 use Rattle.types.specs.Types.{close_reason_maximum}

@@ -1,7 +1,6 @@
 -- The loop of Packing, and the last byte after it.
 use native.Mathlib.Omega.{arith}
-use borrow.Author.Rules.{rules}
-use Rattle.writer_spelling.proofs.Packing.{Packing, begins, goes_on, ends}
+use Rattle.writer_spelling.proofs.Packing.{begins, goes_on, ends}
 use Rattle.writer_spelling.proofs.inner.words.packed.Goals as goal
 
 pub loop-rest-init : goal.loop-rest-init

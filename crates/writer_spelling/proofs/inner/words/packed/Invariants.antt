@@ -1,6 +1,4 @@
-use native.Mathlib.Omega.{arith}
-use borrow.Author.Rules.{rules}
-use Rattle.writer_spelling.proofs.Packing.{Packing, begins, goes_on, ends}
+use Rattle.writer_spelling.proofs.Packing.{Packing}
 use Rattle.writer_spelling.proofs.inner.words.packed.Given as goal
 
 abbrev pub invariant-loop-rest : goal.invariant-loop-rest

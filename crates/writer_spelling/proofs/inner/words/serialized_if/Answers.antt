@@ -1,5 +1,4 @@
 -- The number's lowest bits, as many as it takes: they hold it.
-use borrow.Author.Rules.{rules}
 use Rattle.bitio_window.proofs.Widths.{width_holds}
 use Rattle.writer_spelling.proofs.Spelling.{serialized_bits_are}
 use Rattle.writer_spelling.proofs.inner.words.serialized_if.Goals as goal
