@@ -15,7 +15,7 @@ use Rattle.packet_header.specs.declared.BunchFields.{BunchFields}
 use Rattle.packet_tracking.specs.declared.inner.partials.Effect as I
 use Rattle.packet_tracking.specs.declared.inner.partials.Verdict.{Verdict}
 use Rattle.types.specs.Continuing.{Partial}
-use Rattle.packet_tracking.specs.Partials.{Effect, stays, puts, Tracked, tracked, initial, judged, fragment}
+use Rattle.packet_tracking.specs.Partials.{stays, puts, Tracked, tracked, initial, judged, fragment}
 use Rattle.packet_tracking.specs.Verdicts.{tracking_effect, verdict_of}
 use Rattle.packet_tracking.specs.PartialColumns.{TrackedIn, partials_at, partials_laid}
 use Rattle.packet_tracking.specs.Fits.{TableLive}

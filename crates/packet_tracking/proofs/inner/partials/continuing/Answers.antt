@@ -1,6 +1,4 @@
 -- Each way through is one clause of the definition, by what `continues` answered.
-use borrow.Author.Rules.{rules}
-use borrow.Author.Tests.{not-true, not-false}
 use Rattle.packet_tracking.proofs.inner.partials.continuing.Goals as goal
 
 pub returns-then-not-continues : goal.returns-then-not-continues

@@ -4,7 +4,6 @@ use mathlib.Core.Path.{◌≡◌, sym}
 use native.Mathlib.Omega.{arith}
 use Rattle.tables.proofs.Join.{free_live}
 use Rattle.packet_tracking.proofs.Effects.{same_laid, new_laid, absent_laid}
-use borrow.Author.Rules.{rules}
 use Rattle.packet_tracking.proofs.inner.partials.edit_free.Goals as goal
 
 pub insert-requires : goal.insert-requires

@@ -3,7 +3,6 @@ use mathlib.Core.Path.{sym}
 use native.Mathlib.Omega.{arith}
 use Rattle.packet_tracking.proofs.Tracking.{inside, indexed}
 use Rattle.packet_tracking.proofs.Effects.{same_laid, put_laid, gone_laid}
-use borrow.Author.Rules.{rules}
 use Rattle.packet_tracking.proofs.inner.partials.edit_there.Goals as goal
 
 pub offset_bounds-sequences-i : goal.offset_bounds-sequences-i

@@ -1,5 +1,4 @@
 -- Each way through is one clause of the definition.
-use borrow.Author.Rules.{rules}
 use Rattle.packet_tracking.proofs.inner.partials.initial.Goals as goal
 
 pub returns-then-last : goal.returns-then-last

@@ -1,5 +1,4 @@
 -- Each way through is one side of the definition.
-use borrow.Author.Rules.{rules}
 use Rattle.packet_tracking.specs.Partials.{judged}
 use Rattle.packet_tracking.proofs.inner.partials.judge.Goals as goal
 

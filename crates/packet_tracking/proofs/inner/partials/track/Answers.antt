@@ -3,7 +3,6 @@ use mathlib.Core.Path.{sym}
 use Rattle.packet_tracking.specs.Partials.{tracking}
 use Rattle.packet_tracking.proofs.Tracking.{lives, roomy}
 use Rattle.packet_tracking.proofs.Effects.{same_laid}
-use borrow.Author.Rules.{rules}
 use Rattle.packet_tracking.proofs.inner.partials.track.Goals as goal
 
 pub returns-then-f-limited : goal.returns-then-f-limited
