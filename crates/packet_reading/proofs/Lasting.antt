@@ -5,7 +5,7 @@ use mathlib.Core.Bool.{Bool, true, false, cond}
 use mathlib.Core.List.{List}
 use lib.Dec.{eqb, leb, ltb}
 use lib.ListN.{length, length-map}
-use Rattle.tables.specs.Tables.{channels, values}
+use Rattle.tables.specs.Tables.{values}
 use Rattle.packet_header.specs.declared.BunchFields.{BunchFields}
 use Rattle.packet_header.specs.Header.{Header, unreadable, readable, as_header, fields}
 use Rattle.packet_tracking.specs.Sequences.{numbered}

@@ -1,5 +1,6 @@
 // A bunch read over tables that have been tested: one turn of vrf-net/src/packet.rs.
 #![tactic(auto)]
+
 use bitio_window::{PacketBit, Window};
 use types::RawBunchHeader;
 

@@ -6,7 +6,6 @@ use native.Mathlib.Omega.{arith}
 use lib.ListN.{length}
 use borrow.Author.Tests.{eq-eqb, ne_eqb}
 use Rattle.packet_reading.specs.Packet.{last_byte, data_bits}
-use borrow.Author.Rules.{rules}
 use Rattle.packet_reading.proofs.inner.bunch.data_bits.Goals as goal
 
 of_none : (d : List ℕ) → length d ≡ 0 → last_byte d ≡ 0

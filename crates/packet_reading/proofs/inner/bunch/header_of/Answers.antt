@@ -1,7 +1,6 @@
 -- Field by field; the sequence, the id and the reason by their own functions.
 use mir.Syntax.{w32}
 use mir.ValLaws.{to_z-of_z}
-use borrow.Author.Rules.{rules}
 use Rattle.packet_reading.proofs.inner.bunch.header_of.Goals as goal
 
 pub returns : goal.returns

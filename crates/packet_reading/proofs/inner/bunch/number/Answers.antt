@@ -3,7 +3,6 @@ use mathlib.Core.Path.{sym}
 use mathlib.Core.Bool.{false}
 use Rattle.packet_tracking.specs.Sequences.{numbered, unreliable}
 use Rattle.packet_tracking.proofs.Numbering.{same_sequences}
-use borrow.Author.Rules.{rules}
 use Rattle.packet_reading.proofs.inner.bunch.number.Goals as goal
 
 pub returns-then-f : goal.returns-then-f

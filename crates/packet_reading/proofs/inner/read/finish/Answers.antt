@@ -3,7 +3,6 @@ use Prim.Native.Nat.{◌+◌, ◌≤◌}
 use mathlib.Core.Path.{◌∙◌}
 use native.Mathlib.Omega.{arith}
 use Rattle.packet_reading.proofs.Finishing.{numbered_state, overrun, fits}
-use borrow.Author.Rules.{rules}
 use Rattle.packet_reading.proofs.inner.read.finish.Goals as goal
 
 pub number-n-requires : goal.number-n-requires
@@ -28,24 +27,3 @@ returns c =
     let a = c.args in
     let n = c.number-n in
     c.settle.ensures ∙ fits c.requires.0 a.f a.id a.position a.end n.result _ _ n.ensures c.if-end-position.false
-
-pub shape_of-sequence_channels-then-end-position : goal.shape_of-sequence_channels-then-end-position
-shape_of-sequence_channels-then-end-position c = c.sequence_channels-1.given
-
-pub shape_of-sequence_numbers-then-end-position : goal.shape_of-sequence_numbers-then-end-position
-shape_of-sequence_numbers-then-end-position c = c.sequence_numbers-1.given
-
-pub shape_of-sequence_channels : goal.shape_of-sequence_channels
-shape_of-sequence_channels c = c.sequence_channels-2-1.given ∙ c.sequence_channels-1.given
-
-pub shape_of-sequence_numbers : goal.shape_of-sequence_numbers
-shape_of-sequence_numbers c = c.sequence_numbers-2-1.given ∙ c.sequence_numbers-1.given
-
-pub shape_of-partial_channels : goal.shape_of-partial_channels
-shape_of-partial_channels c = c.partial_channels-1.given
-
-pub shape_of-partial_sequences : goal.shape_of-partial_sequences
-shape_of-partial_sequences c = c.partial_sequences-1.given
-
-pub shape_of-partial_reliables : goal.shape_of-partial_reliables
-shape_of-partial_reliables c = c.partial_reliables-1.given

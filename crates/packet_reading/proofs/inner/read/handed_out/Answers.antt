@@ -1,5 +1,4 @@
 -- The header and the counts that rise, for any memory.
-use borrow.Author.Rules.{rules}
 use Rattle.packet_reading.proofs.inner.read.handed_out.Goals as goal
 
 pub returns : goal.returns

@@ -1,5 +1,4 @@
 -- The counts that rise, for any memory.
-use borrow.Author.Rules.{rules}
 use Rattle.packet_reading.proofs.inner.read.malformed.Goals as goal
 
 pub returns : goal.returns

@@ -5,7 +5,6 @@ use Rattle.packet_header.proofs.Within.{within}
 use Rattle.packet_reading.specs.Packet.{rest}
 use Rattle.packet_reading.proofs.Reading.{begun}
 use Rattle.packet_reading.proofs.Exits.{out_empty, out_unmarked, out_end, out_unread, out_read}
-use borrow.Author.Rules.{rules}
 use Rattle.packet_reading.proofs.inner.read.read.Goals as goal
 
 pub returns-then-size-eq0 : goal.returns-then-size-eq0
@@ -36,18 +35,3 @@ pub returns : goal.returns
 returns c =
     let a = c.args in
     out_read c.requires.0 a.packet.now a.id a.at c.finish.result c.if-size-eq0.false c.if-packet-size-eq0.false c.data_bits-bits.ensures.0 c.read_fields-h.result c.if-bits-at.false c.read_fields-h.ensures c.finish.ensures c.if-h.false
-
-pub shape_of-sequence_channels : goal.shape_of-sequence_channels
-shape_of-sequence_channels c = c.sequence_channels-1.given
-
-pub shape_of-sequence_numbers : goal.shape_of-sequence_numbers
-shape_of-sequence_numbers c = c.sequence_numbers-1.given
-
-pub shape_of-partial_channels : goal.shape_of-partial_channels
-shape_of-partial_channels c = c.partial_channels-1.given
-
-pub shape_of-partial_sequences : goal.shape_of-partial_sequences
-shape_of-partial_sequences c = c.partial_sequences-1.given
-
-pub shape_of-partial_reliables : goal.shape_of-partial_reliables
-shape_of-partial_reliables c = c.partial_reliables-1.given

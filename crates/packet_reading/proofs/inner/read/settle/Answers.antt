@@ -2,7 +2,6 @@
 use mathlib.Core.Path.{sym, ◌∙◌}
 use Rattle.packet_tracking.proofs.Tracking.{lives, roomy}
 use Rattle.packet_reading.proofs.Turning.{tracked_fits, tracked_sizes, left_open, closed}
-use borrow.Author.Rules.{rules}
 use Rattle.packet_reading.proofs.inner.read.settle.Goals as goal
 
 pub track-k-requires : goal.track-k-requires
@@ -25,7 +24,7 @@ returns-then-retires c =
     let a = c.args in
     let p = c.requires.0 in
     let k = c.track-k in
-    c.Handed-out.ensures _
+    c.handed_out.ensures _
     ∙ closed p a.f a.id a.position a.n.sequence a.n.limited k.result _ _ _ k.ensures (sym c.retires.ensures ∙ c.if-retires.true) _ _ _ _ _ _ _ c.retire_sequence-s.ensures c.retire_partial-p.ensures
 
 pub returns : goal.returns
@@ -39,29 +38,5 @@ returns c =
 pub handed_out-requires : goal.handed_out-requires
 handed_out-requires c = c.requires.1
 
-pub shape_of-sequence_channels-then-retires : goal.shape_of-sequence_channels-then-retires
-shape_of-sequence_channels-then-retires c = c.sequence_channels-1.given
-
-pub shape_of-sequence_numbers-then-retires : goal.shape_of-sequence_numbers-then-retires
-shape_of-sequence_numbers-then-retires c = c.sequence_numbers-1.given
-
-pub shape_of-partial_channels-then-retires : goal.shape_of-partial_channels-then-retires
-shape_of-partial_channels-then-retires c = c.partial_channels-then-retires-1.given ∙ c.partial_channels-1.given
-
-pub shape_of-partial_sequences-then-retires : goal.shape_of-partial_sequences-then-retires
-shape_of-partial_sequences-then-retires c = c.partial_sequences-then-retires-1.given ∙ c.partial_sequences-1.given
-
-pub shape_of-partial_reliables-then-retires : goal.shape_of-partial_reliables-then-retires
-shape_of-partial_reliables-then-retires c = c.partial_reliables-then-retires-1.given ∙ c.partial_reliables-1.given
-
 pub handed_out-requires-2 : goal.handed_out-requires-2
 handed_out-requires-2 c = c.requires.1
-
-pub shape_of-partial_channels : goal.shape_of-partial_channels
-shape_of-partial_channels c = c.partial_channels-1.given
-
-pub shape_of-partial_sequences : goal.shape_of-partial_sequences
-shape_of-partial_sequences c = c.partial_sequences-1.given
-
-pub shape_of-partial_reliables : goal.shape_of-partial_reliables
-shape_of-partial_reliables c = c.partial_reliables-1.given
