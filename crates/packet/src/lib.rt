@@ -1,5 +1,6 @@
 // The packet reader, one bunch a call: vrf-net/src/packet.rs over lent tables.
 #![tactic(auto)]
+
 use packet_reading::{PacketError, RawPacketReader};
 
 pub mod packets;

@@ -1,5 +1,4 @@
 -- The definition, word for word.
-use borrow.Author.Rules.{rules}
 use Rattle.packet.proofs.packets.fitting.Goals as goal
 
 pub returns : goal.returns

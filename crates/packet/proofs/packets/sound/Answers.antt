@@ -5,7 +5,6 @@ use native.Mathlib.Omega.{arith}
 use lib.ListN.{length}
 use Rattle.packet_reading.specs.Memory.{tables_fit, tables_sound}
 use Rattle.packet.proofs.Soundness.{lives}
-use borrow.Author.Rules.{rules}
 use Rattle.packet.proofs.packets.sound.Goals as goal
 
 pub ascending-sequences-requires : goal.ascending-sequences-requires

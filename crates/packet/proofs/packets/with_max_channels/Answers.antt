@@ -2,7 +2,6 @@
 use mathlib.Core.Path.{sym, ◌∙◌}
 use Rattle.packet_reading.specs.Memory.{tables_fit}
 use Rattle.packet.specs.Answers.{opened_reader}
-use borrow.Author.Rules.{rules}
 use Rattle.packet.proofs.packets.with_max_channels.Goals as goal
 
 pub returns-then-fitting : goal.returns-then-fitting
