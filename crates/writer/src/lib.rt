@@ -1,5 +1,6 @@
 // A bunch writer over a lent packet: what it writes, the packet reader reads back.
 #![tactic(auto)]
+
 use bitio_window::PacketBit;
 
 pub mod inner;

@@ -11,7 +11,6 @@ use Rattle.bitio_window.specs.Parse.{value}
 use Rattle.writer_spelling.specs.Bits.{number_bits}
 use Rattle.writer.specs.Answers.{write_refuses}
 use Rattle.writer.proofs.Calls.{close_five, close_adds, seventeen, puts, there}
-use borrow.Author.Rules.{rules}
 use Rattle.writer.proofs.writing.close_packet.Goals as goal
 
 pub overflow_mul-result : goal.overflow_mul-result

@@ -3,10 +3,9 @@ use Prim.Native.Nat.{◌*◌}
 use mathlib.Core.Path.{◌∙◌, sym}
 use native.Mathlib.Omega.{arith}
 use lib.ListN.{length}
-use borrow.Author.Tests.{ltb-true, ltb-false, not-true, not-false}
+use borrow.Author.Tests.{ltb-true, ltb-false}
 use Rattle.writer_spelling.specs.Header.{fields_of, bunch_bits}
 use Rattle.writer.proofs.Calls.{five, sixteen, eleven, twelve, appends}
-use borrow.Author.Rules.{rules}
 use Rattle.writer.proofs.writing.write_bunch.Goals as goal
 
 pub overflow_mul-result : goal.overflow_mul-result

@@ -4,7 +4,6 @@ use mathlib.Core.Path.{◌∙◌, ap, ap₂, sym}
 use mathlib.Core.List.{List}
 use native.Mathlib.Omega.{arith}
 use lib.ListN.{length}
-use borrow.Author.Rules.{rules}
 use Rattle.bitio_window.specs.Refusals.{no_room}
 use Rattle.bitio_window.specs.Parse.{value}
 use Rattle.writer.specs.Answers.{write_refuses, bits_with}

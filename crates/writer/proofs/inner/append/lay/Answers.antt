@@ -1,5 +1,4 @@
 -- The payload on the packet as the header left it.
-use borrow.Author.Rules.{rules}
 use Rattle.writer.proofs.inner.append.lay.Goals as goal
 
 pub returns : goal.returns

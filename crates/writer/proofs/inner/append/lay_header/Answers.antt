@@ -1,7 +1,6 @@
 -- Two pieces, the second on the packet as the first left it, or both in one.
 use mathlib.Core.Path.{◌∙◌}
 use native.Mathlib.Omega.{arith}
-use borrow.Author.Rules.{rules}
 use Rattle.writer.proofs.Appending.{both_count, put_both}
 use Rattle.writer.proofs.inner.append.lay_header.Goals as goal
 

@@ -1,9 +1,7 @@
 -- After each step the packet has the payload's first `done` bits.
 use mathlib.Core.Path.{◌≡◌, refl, ap, ◌∙◌}
-use Prim.Native.Nat.{ℕ, ◌-◌, ◌≤◌}
+use Prim.Native.Nat.{ℕ}
 use native.Mathlib.Omega.{arith}
-use lib.ListN.{length}
-use borrow.Author.Rules.{rules}
 use Rattle.writer_spelling.specs.Bits.{bits_from, put_bits}
 use Rattle.writer.proofs.Pushing.{put_more}
 use Rattle.writer.proofs.inner.push.payload.Goals as goal
@@ -19,7 +17,7 @@ loop-done-preserved c =
     let s = c.step-done in (
       omega arith,
       omega arith,
-      put_more a.packet.now a.payload.now a.at l.done s.result l.invariant.2 s.ensures.1,
+      put_more a.packet.now a.payload.now a.at l.done s.result l.invariant.2 s.ensures.leaves,
     )
 
 pub returns : goal.returns

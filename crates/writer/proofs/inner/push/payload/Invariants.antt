@@ -1,10 +1,7 @@
-use mathlib.Core.Path.{◌≡◌, refl, ap, ◌∙◌}
-use Prim.Native.Nat.{ℕ, ◌-◌, ◌≤◌}
-use native.Mathlib.Omega.{arith}
+use mathlib.Core.Path.{◌≡◌}
+use Prim.Native.Nat.{◌-◌, ◌≤◌}
 use lib.ListN.{length}
-use borrow.Author.Rules.{rules}
 use Rattle.writer_spelling.specs.Bits.{bits_from, put_bits}
-use Rattle.writer.proofs.Pushing.{put_more}
 use Rattle.writer.proofs.inner.push.payload.Given as goal
 
 abbrev pub invariant-loop-done : goal.invariant-loop-done

@@ -1,13 +1,7 @@
 -- The byte's low bits and the word above them, stored, are the bits put one after the other: the laws of Pushing.
 use mathlib.Core.Path.{◌∙◌}
-use native.Mathlib.Omega.{arith}
-use Prim.Native.Nat.{◌/◌}
-use borrow.Author.Rules.{rules}
 use Rattle.writer.proofs.Pushing.{word_fits, pushed}
 use Rattle.writer.proofs.inner.push.push.Goals as goal
-
-pub overflow_cast-packet : goal.overflow_cast-packet
-overflow_cast-packet c = omega (arith, c.slice_known-2-1.given (c.args.at / 8))
 
 pub overflow_add-kept : goal.overflow_add-kept
 overflow_add-kept c =
