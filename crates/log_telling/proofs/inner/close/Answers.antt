@@ -1,7 +1,6 @@
 -- The packet's line, of its sums.
 use mir.Syntax.{w32}
 use mir.ValLaws.{to_z-of_z}
-use borrow.Author.Rules.{rules}
 use Rattle.log_telling.proofs.inner.close.Goals as goal
 
 pub returns : goal.returns

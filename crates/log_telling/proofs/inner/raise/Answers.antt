@@ -1,6 +1,5 @@
 -- Each sum is of its own count.
 use mathlib.Core.Path.{refl}
-use borrow.Author.Rules.{rules}
 use Rattle.log_telling.proofs.inner.raise.Goals as goal
 
 pub returns : goal.returns

@@ -1,13 +1,12 @@
 -- A bunch's line, or nothing.
 use mathlib.Core.Path.{refl}
 use Rattle.log_telling.proofs.Telling.{no_text}
-use borrow.Author.Rules.{rules}
 use Rattle.log_telling.proofs.inner.show.Goals as goal
 
 pub returns-in-Read : goal.returns-in-Read
 returns-in-Read c =
     let a = c.in-Read.is in
-    rw a (rw c.Line-of.ensures at c.bunch_line.ensures, refl)
+    rw a (rw c.line_of.ensures at c.bunch_line.ensures, refl)
 
 pub returns-in-End : goal.returns-in-End
 returns-in-End c = let a = c.args in rw (c.in-End.is, c.nothing.ensures.0) (no_text a.out.now a.at, c.nothing.ensures.1)
