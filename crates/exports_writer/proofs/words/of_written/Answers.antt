@@ -1,6 +1,5 @@
 -- Both cases, by what the match told.
 use Rattle.exports_writer.specs.Words.{written_words}
-use borrow.Author.Rules.{rules}
 use Rattle.exports_writer.proofs.words.of_written.Goals as goal
 
 pub returns-in-To : goal.returns-in-To

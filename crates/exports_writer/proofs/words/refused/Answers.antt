@@ -1,7 +1,6 @@
 -- Each case, by what the match told.
 use Rattle.bitio_window.specs.Refusals.{beyond, payload_too_long, payload_short, unwritable, no_room}
 use Rattle.exports_writer.specs.Words.{written_words}
-use borrow.Author.Rules.{rules}
 use Rattle.exports_writer.proofs.words.refused.Goals as goal
 
 pub returns-in-CursorPastRoom : goal.returns-in-CursorPastRoom

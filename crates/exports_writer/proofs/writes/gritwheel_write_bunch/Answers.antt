@@ -2,7 +2,6 @@
 use mathlib.Core.Path.{ap, ◌∙◌}
 use Rattle.writer.specs.Answers.{WriteReply}
 use Rattle.exports_writer.specs.Words.{written_words, written_header}
-use borrow.Author.Rules.{rules}
 use Rattle.exports_writer.proofs.writes.gritwheel_write_bunch.Goals as goal
 
 pub returns : goal.returns
