@@ -1,7 +1,6 @@
 -- Each case, by what the match told.
 use mathlib.Core.Path.{refl}
 use Rattle.exports_packet.specs.Packets.{reader_words}
-use borrow.Author.Rules.{rules}
 use Rattle.exports_packet.proofs.bunches.of_opened.Goals as goal
 
 pub returns-in-Value : goal.returns-in-Value

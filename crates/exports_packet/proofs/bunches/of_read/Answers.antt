@@ -1,6 +1,5 @@
 -- Each case, by what the match told.
 use Rattle.exports_packet.specs.Packets.{bunch_words}
-use borrow.Author.Rules.{rules}
 use Rattle.exports_packet.proofs.bunches.of_read.Goals as goal
 
 pub returns-in-Read : goal.returns-in-Read

@@ -1,6 +1,5 @@
 -- Each case, by what the match told.
 use Rattle.bitio_window.specs.Refusals.{beyond, packet_too_long, unfit, unsound}
-use borrow.Author.Rules.{rules}
 use Rattle.exports_packet.proofs.bunches.refusal.Goals as goal
 
 pub returns-in-CursorPastEnd : goal.returns-in-CursorPastEnd

@@ -1,6 +1,5 @@
 -- The words of no bunch, with the header's and the window's in their places.
 use mathlib.Core.Path.{refl}
-use borrow.Author.Rules.{rules}
 use Rattle.exports_packet.proofs.bunches.with_bunch.Goals as goal
 
 pub returns : goal.returns

@@ -1,7 +1,6 @@
 -- The words of what the call answers, and what it left in the tables.
 use mir.Syntax.{w32}
 use mir.ValLaws.{to_z-of_z}
-use borrow.Author.Rules.{rules}
 use Rattle.exports_packet.proofs.Told.{told_bunch}
 use Rattle.exports_packet.proofs.packets.gritwheel_read_bunch.Goals as goal
 

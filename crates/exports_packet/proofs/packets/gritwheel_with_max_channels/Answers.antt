@@ -1,7 +1,6 @@
 -- The words of what the call answers.
 use mathlib.Core.Path.{ap, ◌∙◌}
 use Rattle.exports_packet.specs.Packets.{reader_words}
-use borrow.Author.Rules.{rules}
 use Rattle.exports_packet.proofs.packets.gritwheel_with_max_channels.Goals as goal
 
 pub returns : goal.returns
