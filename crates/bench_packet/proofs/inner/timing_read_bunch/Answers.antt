@@ -1,5 +1,4 @@
 -- The words of what the call answers, and what it left in the tables.
-use borrow.Author.Rules.{rules}
 use Rattle.exports_packet.proofs.Told.{told_bunch}
 use Rattle.bench_packet.proofs.inner.timing_read_bunch.Goals as goal
 
