@@ -19,8 +19,8 @@ returns-then-none_for c =
     ap (λ (k : ℕ). write_refuses (no_room k) a.packet.now) (c.bits_with.ensures ∙ ap (bits_with a.at) (sym n))
     ∙ seventeen _ a.packet.now a.at _ (rw n (sym c.none_for.ensures ∙ c.if-none_for.true))
 
-in-room : (c : Else-none_for) → let more = c.args.at + (c.front-front.result.count + c.back-back.result.count + c.args.f.payload_bit_count) in (more ≤ 8 * length c.args.packet.now) × (more ≤ 524280)
-in-room c =
+in_room : (c : Else-none_for) → let more = c.args.at + (c.front-front.result.count + c.back-back.result.count + c.args.f.payload_bit_count) in (more ≤ 8 * length c.args.packet.now) × (more ≤ 524280)
+in_room c =
     let a = c.args in
     there a.packet.now (a.at + (c.front-front.result.count + c.back-back.result.count + a.f.payload_bit_count)) (sym c.none_for.ensures ∙ c.if-none_for.false)
 
@@ -29,7 +29,7 @@ lay-requires c =
     let a = c.args in
     let u = c.front-front.ensures in
     let v = c.back-back.ensures in
-    let e = in-room (goal.at.lay-requires c).Else-none_for in (
+    let e = in_room (goal.at.lay-requires c).Else-none_for in (
       record { whole = u.whole; some = front_some a.f u; short = omega arith },
       record { whole = v.whole; some = back_some a.f v; short = omega arith },
       c.requires.2,
@@ -38,7 +38,7 @@ lay-requires c =
     )
 
 pub overflow_add-result : goal.overflow_add-result
-overflow_add-result c = record { fits = omega (arith, (in-room (goal.at.overflow_add-result c).Else-none_for).1) }
+overflow_add-result c = record { fits = omega (arith, (in_room (goal.at.overflow_add-result c).Else-none_for).1) }
 
 pub returns : goal.returns
 returns c =
