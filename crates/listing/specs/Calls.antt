@@ -1,6 +1,10 @@
--- What a call of the system that moves bytes came to. POSIX: it answers how many bytes it moved, or -1, and then `errno` is the
--- error's number; that of a call which a signal interrupted is EINTR, 4.
-use Rattle.std.specs.Prelude.{ℕ, Bool, true, false, cond, ℤ, pos, negsuc, ◌==◌}
+-- What a call that moves bytes came to. It answers how many bytes it moved, or an error, which has the system's number; that of a
+-- call which a signal interrupted is EINTR, 4.
+use Rattle.std.specs.Prelude.{ℕ, Bool, true, false, cond, ℤ, pos, negsuc, ◌==◌, Ok, Err}
+use Rattle.std.specs.declared.result.Result.{Result}
+use Rattle.std.specs.declared.io.Error.{Error}
+use Rattle.std.specs.IoError.{raw_os_error}
+use Rattle.std.specs.Option.{unwrap_or}
 use Rattle.listing.specs.declared.inner.moved.Moved.{Moved}
 
 -- no error's number is below 0
@@ -11,9 +15,13 @@ error_number (negsuc n) = 0
 abbrev pub failed_by : ℕ → Moved
 failed_by n = cond (n == 4) Moved.Interrupted (Moved.Failed n)
 
-abbrev pub moved_by : ℤ → ℤ → Moved
-moved_by (pos n) error = Moved.Bytes n
-moved_by (negsuc n) error = failed_by (error_number error)
+-- an error that isn't the system's has no number
+abbrev pub os_number : Error → ℤ
+os_number e = unwrap_or (raw_os_error e) (pos 0)
+
+abbrev pub moved_by : Result ℕ Error → Moved
+moved_by (Ok n) = Moved.Bytes n
+moved_by (Err e) = failed_by (error_number (os_number e))
 
 abbrev pub bytes_moved : Moved → ℕ
 bytes_moved (Moved.Bytes n) = n

@@ -1,5 +1,6 @@
 // Lists a packet log that it reads on standard input, and says on standard error how the listing ended.
 #![tactic(auto)]
+
 ghost use Rattle.std.specs.Prelude.{◌≡◌, length};
 ghost use Rattle.types.specs.Types.{most_channels};
 
@@ -28,7 +29,7 @@ fn column() -> [u32; MAX_ACTIVE_CHANNELS]
     [0; MAX_ACTIVE_CHANNELS]
 }
 
-fn main() {
+fn main(rt: HostRuntime) {
     let mut buffer = input_room();
     let mut out = output_room();
     let mut sequence_channels = column();
@@ -37,6 +38,8 @@ fn main() {
     let mut partial_sequences = column();
     let mut partial_reliables = column();
     let ended = inner::run::list(
+        &mut rt.stdin(),
+        &mut rt.stdout(),
         &mut buffer,
         &mut out,
         &mut sequence_channels,
@@ -46,5 +49,5 @@ fn main() {
         &mut partial_reliables,
     );
     let outcome = ended.outcome;
-    inner::said::say(outcome);
+    inner::said::say(&mut rt.stderr(), outcome);
 }

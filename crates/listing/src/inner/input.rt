@@ -5,7 +5,7 @@ ghost use Rattle.listing.specs.Input.{InBuffer, Slid, RefilledFrom};
 
 use crate::inner::moved;
 use crate::inner::moved::Moved;
-use libc::STDIN_FILENO;
+use std::io::Read;
 
 // The bytes of the log before the buffer, and how many stand in it.
 #[derive(Clone, Copy)]
@@ -35,39 +35,36 @@ fn slide(buffer: &mut [u8], at: usize, held: usize) -> usize
     left
 }
 
-// `errno` is told just after the call.
-fn read_once(buffer: &mut [u8], held: usize) -> Moved
+fn read_once<R: Read>(source: &mut R, buffer: &mut [u8], held: usize) -> Moved
     requires { held ≤ length buffer.old }
     ensures { held + bytes_moved result ≤ length buffer.new }
 {
-    let got = libc::read(STDIN_FILENO, &mut buffer[held..]);
-    let error = os::errno();
-    moved::moved_by(got, error)
+    moved::moved_by(source.read(&mut buffer[held..]))
 }
 
 // A read that a signal interrupted is made again. The loop's count is one that no run uses up.
-fn read_more(buffer: &mut [u8], held: usize) -> Moved
+fn read_more<R: Read>(source: &mut R, buffer: &mut [u8], held: usize) -> Moved
     requires { held ≤ length buffer.old }
     ensures { held + bytes_moved result ≤ length buffer.new }
 {
-    let mut moved = read_once(buffer, held);
+    let mut moved = read_once(source, buffer, held);
     let mut turns = u64::MAX;
     while turns > 0 && moved::is_interrupted(moved) {
         turns -= 1;
-        moved = read_once(buffer, held);
+        moved = read_once(source, buffer, held);
     }
     moved
 }
 
-pub fn refill(buffer: &mut [u8], part: Part, at: usize) -> Refilled
+pub fn refill<R: Read>(source: &mut R, buffer: &mut [u8], part: Part, at: usize) -> Refilled
     requires { InBuffer buffer.old part × (at ≤ part.held) }
     ensures { InBuffer buffer.new result.part × RefilledFrom part at result }
 {
     let left = slide(buffer, at, part.held);
-    let moved = read_more(buffer, left);
+    let moved = read_more(source, buffer, left);
     Refilled {
         part: Part {
-            before: std::num::wrapping_add_u64(part.before, at as u64),
+            before: part.before.wrapping_add(at as u64),
             held: left + moved::bytes_of(moved),
         },
         moved,

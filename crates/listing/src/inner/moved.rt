@@ -1,6 +1,8 @@
-// What a call of the system that moves bytes came to, decided by its answer and `errno`.
+// What a call that moves bytes came to, decided by its answer.
 ghost use Rattle.std.specs.Prelude.{◌≡◌};
-ghost use Rattle.listing.specs.Calls.{error_number, failed_by, moved_by, bytes_moved, error_of, is_interrupted, if_any, turns_to_write};
+ghost use Rattle.listing.specs.Calls.{error_number, os_number, failed_by, moved_by, bytes_moved, error_of, is_interrupted, if_any, turns_to_write};
+
+use std::io;
 
 // So many bytes; none, since a signal came first; or the error's number.
 #[derive(Clone, Copy)]
@@ -10,7 +12,7 @@ pub enum Moved {
     Failed(u64),
 }
 
-// `libc::EINTR`.
+// EINTR.
 pub const INTERRUPTED: u64 = 4;
 
 fn error_number(error: i32) -> u64
@@ -31,13 +33,20 @@ fn failed_by(number: u64) -> Moved
     Moved::Failed(number)
 }
 
-pub fn moved_by(got: isize, error: i32) -> Moved
-    ensures { result ≡ moved_by got error }
+// 0 where the error has no number.
+fn os_number(error: &io::Error) -> i32
+    ensures { result ≡ os_number error.now }
 {
-    if got < 0 {
-        return failed_by(error_number(error));
+    error.raw_os_error().unwrap_or(0)
+}
+
+pub fn moved_by(got: io::Result<usize>) -> Moved
+    ensures { result ≡ moved_by got }
+{
+    match got {
+        Ok(count) => Moved::Bytes(count),
+        Err(error) => failed_by(error_number(os_number(&error))),
     }
-    Moved::Bytes(got as usize)
 }
 
 pub fn bytes_of(moved: Moved) -> usize

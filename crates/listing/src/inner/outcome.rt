@@ -23,7 +23,7 @@ fn read_failed(left: usize, start: u64, error: u64) -> Outcome
     ensures { result ≡ read_failed left start error }
 {
     Outcome::ReadFailed {
-        at: std::num::wrapping_add_u64(start, left as u64),
+        at: start.wrapping_add(left as u64),
         error,
     }
 }

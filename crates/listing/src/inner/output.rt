@@ -7,7 +7,7 @@ ghost use Rattle.listing.specs.Outcomes.{Concluded};
 use crate::inner::moved::Moved;
 use crate::inner::outcome::Outcome;
 use crate::inner::{moved, outcome};
-use libc::STDOUT_FILENO;
+use std::io::Write;
 
 // How many bytes are out and, where not all are, the error's number.
 #[derive(Clone, Copy)]
@@ -24,18 +24,15 @@ pub struct Room {
     pub outcome: Outcome,
 }
 
-// `errno` is told just after the call.
-fn write_once(fd: i32, out: &[u8], from: usize, to: usize) -> Moved
+fn write_once<W: Write>(sink: &mut W, out: &[u8], from: usize, to: usize) -> Moved
     requires { (from ≤ to) × (to ≤ length out.now) }
     ensures { from + bytes_moved result ≤ to }
 {
-    let got = libc::write(fd, &out[from..to]);
-    let error = os::errno();
-    moved::moved_by(got, error)
+    moved::moved_by(sink.write(&out[from..to]))
 }
 
 // A write may take a part; one that a signal interrupted is made again. The loop's count is one that no run uses up.
-pub fn flush(fd: i32, out: &[u8], used: usize) -> Flushed
+pub fn flush<W: Write>(sink: &mut W, out: &[u8], used: usize) -> Flushed
     requires { used ≤ length out.now }
     ensures { result.bytes ≤ used }
 {
@@ -43,7 +40,7 @@ pub fn flush(fd: i32, out: &[u8], used: usize) -> Flushed
     let mut error: u64 = 0;
     let mut turns = u64::MAX;
     while turns > 0 && bytes < used {
-        let moved = write_once(fd, out, bytes, used);
+        let moved = write_once(sink, out, bytes, used);
         bytes += moved::bytes_of(moved);
         error = moved::error_of(moved);
         turns = moved::turns_to_write(turns - 1, moved);
@@ -51,7 +48,7 @@ pub fn flush(fd: i32, out: &[u8], used: usize) -> Flushed
     Flushed { bytes, error }
 }
 
-pub fn with_room(out: &[u8], used: usize, written: u64) -> Room
+pub fn with_room<W: Write>(sink: &mut W, out: &[u8], used: usize, written: u64) -> Room
     requires { (used ≤ length out.now) × (packet_room ≤ length out.now) }
     ensures { PacketRoom out.now result.used × Concluded Outcome.GoesOn result.outcome }
 {
@@ -62,8 +59,8 @@ pub fn with_room(out: &[u8], used: usize, written: u64) -> Room
             outcome: Outcome::GoesOn,
         };
     }
-    let flushed = flush(STDOUT_FILENO, out, used);
-    let all = std::num::wrapping_add_u64(written, flushed.bytes as u64);
+    let flushed = flush(sink, out, used);
+    let all = written.wrapping_add(flushed.bytes as u64);
     Room {
         used: 0,
         written: all,

@@ -12,9 +12,9 @@ ghost use Rattle.log_telling.specs.Turns.{PacketRoom};
 use crate::inner::input::Part;
 use crate::inner::outcome::Outcome;
 use crate::inner::{input, outcome, output, said};
-use libc::STDOUT_FILENO;
 use packet_log::{Entry, Version};
 use packet_reading::RawPacketReader;
+use std::io::{Read, Write};
 use types::MAX_ACTIVE_CHANNELS;
 
 // The tables' counts, how much of the lines waits and how much is out, and how the listing ended.
@@ -41,7 +41,9 @@ fn record_at(bytes: &[u8], at: u64) -> Entry
 }
 
 // A proved loop has to end, and nothing says that an input does: it counts its turns down, from a number that no run uses up.
-fn records(
+fn records<R: Read, W: Write>(
+    source: &mut R,
+    sink: &mut W,
     buffer: &mut [u8],
     out: &mut [u8],
     first: Part,
@@ -99,7 +101,7 @@ fn records(
                 partial_sequences,
                 partial_reliables,
             );
-            let room = output::with_room(out, told.end, written);
+            let room = output::with_room(sink, out, told.end, written);
             used = room.used;
             written = room.written;
             outcome = room.outcome;
@@ -109,7 +111,7 @@ fn records(
             turns = outcome::turns_left(turns, outcome);
         } else {
             let left = held - at;
-            let refilled = input::refill(buffer, part, at);
+            let refilled = input::refill(source, buffer, part, at);
             part = refilled.part;
             at = 0;
             let moved = refilled.moved;
@@ -130,7 +132,13 @@ fn records(
 }
 
 // The last line, where there is one, and all that waits. After a write that failed nothing more is written.
-fn conclude(out: &mut [u8], used: usize, written: u64, outcome: Outcome) -> Outcome
+fn conclude<W: Write>(
+    sink: &mut W,
+    out: &mut [u8],
+    used: usize,
+    written: u64,
+    outcome: Outcome,
+) -> Outcome
     requires { PacketRoom out.old used }
     ensures { (out.new ≡ textWritten out.old used (last_line outcome)) × Concluded outcome result }
 {
@@ -138,13 +146,15 @@ fn conclude(out: &mut [u8], used: usize, written: u64, outcome: Outcome) -> Outc
         return outcome;
     }
     let end = said::last_line(out, used, outcome);
-    let flushed = output::flush(STDOUT_FILENO, out, end);
-    let all = std::num::wrapping_add_u64(written, flushed.bytes as u64);
+    let flushed = output::flush(sink, out, end);
+    let all = written.wrapping_add(flushed.bytes as u64);
     outcome::after_flush(outcome, end, flushed.bytes, all, flushed.error)
 }
 
 // The tables are sound to the end.
-pub fn list(
+pub fn list<R: Read, W: Write>(
+    source: &mut R,
+    sink: &mut W,
     buffer: &mut [u8],
     out: &mut [u8],
     sequence_channels: &mut [u32],
@@ -161,12 +171,14 @@ pub fn list(
         partial_channels.new partial_sequences.new partial_reliables.new in
         TablesSound most_channels result.reader.live_sequences result.reader.live_partials after }
 {
-    let refilled = input::refill(buffer, Part { before: 0, held: 0 }, 0);
+    let refilled = input::refill(source, buffer, Part { before: 0, held: 0 }, 0);
     let part = refilled.part;
     let held = part.held;
     let version = packet_log::reading::version(&buffer[..held]);
     if let Version::Ours = version {
         let listed = records(
+            source,
+            sink,
             buffer,
             out,
             part,
@@ -180,7 +192,7 @@ pub fn list(
         let reached = listed.outcome;
         return Ended {
             reader,
-            outcome: conclude(out, listed.used, listed.written, reached),
+            outcome: conclude(sink, out, listed.used, listed.written, reached),
         };
     }
     let moved = refilled.moved;
@@ -191,6 +203,6 @@ pub fn list(
             live_sequences: 0,
             live_partials: 0,
         },
-        outcome: conclude(out, 0, 0, outcome),
+        outcome: conclude(sink, out, 0, 0, outcome),
     }
 }

@@ -7,9 +7,9 @@ ghost use Rattle.listing.specs.Outcomes.{last_line, outcome_line};
 
 use crate::inner::outcome::Outcome;
 use crate::inner::output;
-use libc::STDERR_FILENO;
 use log_lines::inner::lines::{cut_line, version_line};
 use log_lines::inner::pieces::{byte, number};
+use std::io::Write;
 
 pub fn last_line(out: &mut [u8], at: usize, outcome: Outcome) -> usize
     requires { at + line_room ≤ length out.old }
@@ -72,11 +72,11 @@ pub fn outcome_line(out: &mut [u8], outcome: Outcome) -> usize
 }
 
 // How much of the line is out. What is not can't be told anywhere: then the launcher finds no line.
-pub fn say(outcome: Outcome) -> usize
+pub fn say<W: Write>(sink: &mut W, outcome: Outcome) -> usize
     ensures { result ≤ length (outcome_line outcome) }
 {
     let mut line = [0u8; 96];
     let end = outcome_line(&mut line, outcome);
-    let flushed = output::flush(STDERR_FILENO, &line, end);
+    let flushed = output::flush(sink, &line, end);
     flushed.bytes
 }

@@ -1,0 +1,16 @@
+-- X, V or nothing.
+use Rattle.listing.proofs.Ending.{no_text}
+use Rattle.std.proofs.Common.{rules}
+use Rattle.listing.proofs.inner.said.last_line.Goals as goal
+
+pub returns-in-GoesOn : goal.returns-in-GoesOn
+returns-in-GoesOn c = rw c.in-GoesOn.is (no_text _ _)
+
+pub returns-in-Ended : goal.returns-in-Ended
+returns-in-Ended c = rw c.in-Ended.is (no_text _ _)
+
+pub returns-in-ReadFailed : goal.returns-in-ReadFailed
+returns-in-ReadFailed c = rw c.in-ReadFailed.is (no_text _ _)
+
+pub returns-in-WriteFailed : goal.returns-in-WriteFailed
+returns-in-WriteFailed c = rw c.in-WriteFailed.is (no_text _ _)
