@@ -1,5 +1,6 @@
 pub mod Calls
 pub mod Ending
+pub mod Known
 pub mod Sliding
 pub mod Going
 pub mod Example

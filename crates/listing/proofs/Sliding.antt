@@ -1,5 +1,6 @@
 -- Bytes moved to the front, one after another: those that are still to be moved stand as they were.
-use Rattle.std.proofs.Common.{◌≡◌, ℕ, ◌+◌, ◌<◌, ◌≤◌, List, length, get_or, set, refl, ◌∙◌, arith, length-set, get_or-set_other, get_or-set_same}
+use Rattle.std.proofs.Common.{◌≡◌, ℕ, ◌+◌, ◌<◌, ◌≤◌, List, length, get_or, set, take, drop, refl, sym, ◌∙◌, arith, length-set, length-take-le, get_or-set_other, get_or-set_same}
+use Rattle.std.proofs.lemmas.List.{ext_get_or, get_or-take, get_or-drop, length-drop}
 use native.Mathlib.Decide.{dec_le}
 use Rattle.listing.specs.Input.{Slid}
 
@@ -22,3 +23,11 @@ one_more i b n a s f =
         let e : k ≡ n = omega arith in
         rw e (get_or-set_same a n (get_or a (i + n) 0) 0 f ∙ s.kept (i + n) (omega arith))
     at k h (no g) = get_or-set_other a n k (get_or a (i + n) 0) 0 (λ e. omega arith) ∙ s.slid.moved k (omega arith)
+
+pub slid_bytes : (i n : ℕ) (before after : List ℕ) → Slid i n before after → i + n ≤ length before → take n after ≡ take n (drop i before)
+slid_bytes i n before after s h =
+    let a : length (take n after) ≡ n = length-take-le n after (omega (arith, s.size)) in
+    let b : length (take n (drop i before)) ≡ n = length-take-le n (drop i before) (omega (arith, length-drop i before)) in
+    ext_get_or 0 (take n after) (take n (drop i before)) (a ∙ sym b) (λ k l.
+      let m : k < n = omega (arith, l, a) in
+      get_or-take n after k 0 m ∙ s.moved k m ∙ sym (get_or-drop i before k 0) ∙ sym (get_or-take n (drop i before) k 0 m))

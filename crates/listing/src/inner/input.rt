@@ -1,5 +1,6 @@
 // The part of the log that stands in the buffer.
-ghost use Rattle.std.specs.Prelude.{◌≡◌, ◌+◌, ◌-◌, ◌≤◌, length};
+ghost use Rattle.std.specs.Prelude.{◌≡◌, ◌+◌, ◌-◌, ◌≤◌, length, take, drop};
+ghost use Rattle.std.specs.Io.KnownBytes.{Consumes};
 ghost use Rattle.listing.specs.Calls.{bytes_moved};
 ghost use Rattle.listing.specs.Input.{InBuffer, Slid, RefilledFrom};
 
@@ -37,7 +38,9 @@ fn slide(buffer: &mut [u8], at: usize, held: usize) -> usize
 
 fn read_once<R: Read>(source: &mut R, buffer: &mut [u8], held: usize) -> Moved
     requires { held ≤ length buffer.old }
-    ensures { held + bytes_moved result ≤ length buffer.new }
+    ensures within { held + bytes_moved result ≤ length buffer.new }
+    ensures kept { take held buffer.new ≡ take held buffer.old }
+    ensures brought { Consumes (R.remaining source.old) (R.remaining source.new) (take (bytes_moved result) (drop held buffer.new)) }
 {
     moved::moved_by(source.read(&mut buffer[held..]))
 }
@@ -45,7 +48,9 @@ fn read_once<R: Read>(source: &mut R, buffer: &mut [u8], held: usize) -> Moved
 // A read that a signal interrupted is made again. The loop's count is one that no run uses up.
 fn read_more<R: Read>(source: &mut R, buffer: &mut [u8], held: usize) -> Moved
     requires { held ≤ length buffer.old }
-    ensures { held + bytes_moved result ≤ length buffer.new }
+    ensures within { held + bytes_moved result ≤ length buffer.new }
+    ensures kept { take held buffer.new ≡ take held buffer.old }
+    ensures brought { Consumes (R.remaining source.old) (R.remaining source.new) (take (bytes_moved result) (drop held buffer.new)) }
 {
     let mut moved = read_once(source, buffer, held);
     let mut turns = u64::MAX;
@@ -58,7 +63,10 @@ fn read_more<R: Read>(source: &mut R, buffer: &mut [u8], held: usize) -> Moved
 
 pub fn refill<R: Read>(source: &mut R, buffer: &mut [u8], part: Part, at: usize) -> Refilled
     requires { InBuffer buffer.old part × (at ≤ part.held) }
-    ensures { InBuffer buffer.new result.part × RefilledFrom part at result }
+    ensures part { InBuffer buffer.new result.part × RefilledFrom part at result }
+    ensures left { take (part.held - at) buffer.new ≡ take (part.held - at) (drop at buffer.old) }
+    ensures brought { Consumes (R.remaining source.old) (R.remaining source.new)
+        (take (bytes_moved result.moved) (drop (part.held - at) buffer.new)) }
 {
     let left = slide(buffer, at, part.held);
     let moved = read_more(source, buffer, left);

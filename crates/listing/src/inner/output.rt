@@ -1,5 +1,6 @@
 // Lines gathered in a buffer, and written out where the next packet's might find no room.
-ghost use Rattle.std.specs.Prelude.{◌+◌, ◌≤◌, length};
+ghost use Rattle.std.specs.Prelude.{◌+◌, ◌≤◌, length, take, drop};
+ghost use Rattle.std.specs.Io.KnownBytes.{Appends};
 ghost use Rattle.log_telling.specs.Turns.{packet_room, PacketRoom};
 ghost use Rattle.listing.specs.Calls.{bytes_moved};
 ghost use Rattle.listing.specs.Outcomes.{Concluded};
@@ -26,7 +27,8 @@ pub struct Room {
 
 fn write_once<W: Write>(sink: &mut W, out: &[u8], from: usize, to: usize) -> Moved
     requires { (from ≤ to) × (to ≤ length out.now) }
-    ensures { from + bytes_moved result ≤ to }
+    ensures within { from + bytes_moved result ≤ to }
+    ensures out { Appends (W.contents sink.old) (W.contents sink.new) (take (bytes_moved result) (drop from out.now)) }
 {
     moved::moved_by(sink.write(&out[from..to]))
 }
@@ -34,7 +36,8 @@ fn write_once<W: Write>(sink: &mut W, out: &[u8], from: usize, to: usize) -> Mov
 // A write may take a part; one that a signal interrupted is made again. The loop's count is one that no run uses up.
 pub fn flush<W: Write>(sink: &mut W, out: &[u8], used: usize) -> Flushed
     requires { used ≤ length out.now }
-    ensures { result.bytes ≤ used }
+    ensures within { result.bytes ≤ used }
+    ensures out { Appends (W.contents sink.old) (W.contents sink.new) (take result.bytes out.now) }
 {
     let mut bytes: usize = 0;
     let mut error: u64 = 0;

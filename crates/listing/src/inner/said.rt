@@ -1,5 +1,6 @@
 // What is said of how a listing ended: V or X on standard output, and one line on standard error.
-ghost use Rattle.std.specs.Prelude.{◌+◌, ◌≤◌, [], ◌∷◌, ◌++◌, length};
+ghost use Rattle.std.specs.Prelude.{◌+◌, ◌≤◌, [], ◌∷◌, ◌++◌, length, take};
+ghost use Rattle.std.specs.Io.KnownBytes.{Appends};
 ghost use Rattle.log_lines.specs.Decimal.{decimal};
 ghost use Rattle.log_lines.specs.Lines.{line_room, spaced_fields};
 ghost use Rattle.log_lines.specs.Puts.{Put};
@@ -73,7 +74,8 @@ pub fn outcome_line(out: &mut [u8], outcome: Outcome) -> usize
 
 // How much of the line is out. What is not can't be told anywhere: then the launcher finds no line.
 pub fn say<W: Write>(sink: &mut W, outcome: Outcome) -> usize
-    ensures { result ≤ length (outcome_line outcome) }
+    ensures within { result ≤ length (outcome_line outcome) }
+    ensures out { Appends (W.contents sink.old) (W.contents sink.new) (take result (outcome_line outcome)) }
 {
     let mut line = [0u8; 96];
     let end = outcome_line(&mut line, outcome);
