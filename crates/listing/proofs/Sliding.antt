@@ -29,5 +29,5 @@ slid_bytes i n before after s h =
     let a : length (take n after) ≡ n = length-take-le n after (omega (arith, s.size)) in
     let b : length (take n (drop i before)) ≡ n = length-take-le n (drop i before) (omega (arith, length-drop i before)) in
     ext_get_or 0 (take n after) (take n (drop i before)) (a ∙ sym b) (λ k l.
-      let m : k < n = omega (arith, l, a) in
-      get_or-take n after k 0 m ∙ s.moved k m ∙ sym (get_or-drop i before k 0) ∙ sym (get_or-take n (drop i before) k 0 m))
+    let m : k < n = omega (arith, l, a) in
+    get_or-take n after k 0 m ∙ s.moved k m ∙ sym (get_or-drop i before k 0) ∙ sym (get_or-take n (drop i before) k 0 m))

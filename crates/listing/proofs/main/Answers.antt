@@ -1,5 +1,5 @@
 -- Tables with no channel are sound.
-use Rattle.std.proofs.Common.{arith, rules}
+use Rattle.std.proofs.Common.{arith}
 use Rattle.listing.proofs.Going.{no_channels}
 use Rattle.listing.proofs.main.Goals as goal
 

@@ -9,7 +9,7 @@ invariant-loop-turns g l =
       size : length l.buffer ≡ length l.fn.buffer;
       within : l.held + bytes_moved l.moved ≤ length l.buffer;
       kept : take l.held l.buffer ≡ take l.held l.fn.buffer;
-      brought : Consumes (g.R.Read.remaining l.fn.source) (g.R.Read.remaining l.source) (take (bytes_moved l.moved) (drop l.held l.buffer))
+      brought : Consumes (g.R.Read.remaining l.fn.source) (g.R.Read.remaining l.source) (take (bytes_moved l.moved) (drop l.held l.buffer));
     }
 
 abbrev pub decreases-loop-turns : goal.decreases-loop-turns

@@ -1,6 +1,6 @@
 -- The loop is Sliding's step.
-use Rattle.std.proofs.Common.{◌≡◌, ◌-◌, ◌≤◌, refl, arith, rules}
-use Rattle.listing.proofs.Sliding.{Sliding, begins, one_more}
+use Rattle.std.proofs.Common.{◌≡◌, ◌-◌, refl, arith}
+use Rattle.listing.proofs.Sliding.{begins, one_more}
 use Rattle.listing.proofs.inner.input.slide.Goals as goal
 
 pub loop-i-init : goal.loop-i-init

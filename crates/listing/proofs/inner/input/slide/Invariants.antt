@@ -1,5 +1,5 @@
-use Rattle.std.proofs.Common.{◌≡◌, ◌-◌, ◌≤◌, refl, arith, rules}
-use Rattle.listing.proofs.Sliding.{Sliding, begins, one_more}
+use Rattle.std.proofs.Common.{◌-◌, ◌≤◌}
+use Rattle.listing.proofs.Sliding.{Sliding}
 use Rattle.listing.proofs.inner.input.slide.Given as goal
 
 abbrev pub invariant-loop-i : goal.invariant-loop-i

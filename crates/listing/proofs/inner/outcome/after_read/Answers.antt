@@ -1,5 +1,4 @@
 -- By the cases.
-use Rattle.std.proofs.Common.{rules}
 use Rattle.listing.proofs.inner.outcome.after_read.Goals as goal
 
 pub returns-in-Bytes : goal.returns-in-Bytes

@@ -1,5 +1,5 @@
 -- By the cases.
-use Rattle.std.proofs.Common.{refl, rules}
+use Rattle.std.proofs.Common.{refl}
 use Rattle.listing.proofs.inner.outcome.first_read.Goals as goal
 
 pub returns-in-Bytes : goal.returns-in-Bytes

@@ -1,5 +1,5 @@
 -- By the cases.
-use Rattle.std.proofs.Common.{refl, rules}
+use Rattle.std.proofs.Common.{refl}
 use Rattle.listing.proofs.inner.outcome.opened.Goals as goal
 
 pub returns-in-Ours : goal.returns-in-Ours

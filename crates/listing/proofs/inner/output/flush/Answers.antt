@@ -1,5 +1,5 @@
 -- No write takes more than is left, and each takes up where the one before ended; the measure is the turns that are left.
-use Rattle.std.proofs.Common.{◌-◌, ◌≤◌, arith, rules}
+use Rattle.std.proofs.Common.{◌-◌, arith}
 use Rattle.listing.proofs.Calls.{no_more}
 use Rattle.listing.proofs.Known.{appends_none, appends_more}
 use Rattle.listing.proofs.inner.output.flush.Goals as goal

@@ -1,6 +1,5 @@
 -- X, V or nothing.
 use Rattle.listing.proofs.Ending.{no_text}
-use Rattle.std.proofs.Common.{rules}
 use Rattle.listing.proofs.inner.said.last_line.Goals as goal
 
 pub returns-in-GoesOn : goal.returns-in-GoesOn

@@ -1,5 +1,5 @@
 -- A word, a number and a newline.
-use Rattle.std.proofs.Common.{arith, rules}
+use Rattle.std.proofs.Common.{arith}
 use Rattle.log_lines.proofs.Texts.{then, at_most}
 use Rattle.listing.proofs.inner.said.one_number.Goals as goal
 

@@ -1,6 +1,5 @@
 -- A listing that did not end has no line.
 use Rattle.listing.proofs.Ending.{no_text}
-use Rattle.std.proofs.Common.{rules}
 use Rattle.listing.proofs.inner.said.outcome_line.Goals as goal
 
 pub returns-in-GoesOn : goal.returns-in-GoesOn

@@ -1,5 +1,5 @@
 -- A word, two numbers and a newline.
-use Rattle.std.proofs.Common.{arith, rules}
+use Rattle.std.proofs.Common.{arith}
 use Rattle.log_lines.proofs.Texts.{then, at_most}
 use Rattle.listing.proofs.inner.said.two_numbers.Goals as goal
 

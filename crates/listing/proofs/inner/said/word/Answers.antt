@@ -1,6 +1,6 @@
 -- The loop is Copied's step.
-use Rattle.std.proofs.Common.{◌-◌, length, arith, rules}
-use Rattle.listing.proofs.Ending.{Copied, begins, one_more, all}
+use Rattle.std.proofs.Common.{arith}
+use Rattle.listing.proofs.Ending.{begins, one_more, all}
 use Rattle.listing.proofs.inner.said.word.Goals as goal
 
 pub loop-i-init : goal.loop-i-init

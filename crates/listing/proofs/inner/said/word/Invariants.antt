@@ -1,5 +1,5 @@
-use Rattle.std.proofs.Common.{◌-◌, length, arith, rules}
-use Rattle.listing.proofs.Ending.{Copied, begins, one_more, all}
+use Rattle.std.proofs.Common.{◌-◌, length}
+use Rattle.listing.proofs.Ending.{Copied}
 use Rattle.listing.proofs.inner.said.word.Given as goal
 
 abbrev pub invariant-loop-i : goal.invariant-loop-i
