@@ -1,11 +1,10 @@
 -- What a flush makes of an ending; a word's bytes copied one after another, and no text at all.
 use Rattle.std.proofs.Common.{◌≡◌, ℕ, ◌+◌, ◌<◌, ◌≤◌, Bool, true, false, cond, eqb, List, [], ◌∷◌, ◌++◌, length, get_or, take, set, sym, refl, ap, ◌∙◌, add-zero, zero-add, add-one, arith, length-set, length-take-le, take-suc}
-use lib.Seq.{take-length}
 use Rattle.log_lines.specs.Texts.{written}
 use Rattle.log_lines.specs.Puts.{Put}
 use Rattle.log_lines.proofs.Texts.{written_append}
 use Rattle.listing.specs.declared.inner.outcome.Outcome.{Outcome}
-use Rattle.listing.specs.Outcomes.{after_flush, Concluded, turns_to_list}
+use Rattle.listing.specs.Outcomes.{after_flush, Concluded}
 
 pub as_it_was : (o : Outcome) → Concluded o o
 as_it_was Outcome.GoesOn = refl
@@ -22,17 +21,6 @@ flushed o used out written error q = rw q (go (eqb out used))
     go : (t : Bool) → Concluded o (cond t o (Outcome.WriteFailed written error))
     go true = as_it_was o
     go false = tt
-
-pub no_more_turns : (turns : ℕ) (o : Outcome) {r : ℕ} → r ≡ turns_to_list turns o → r ≤ turns
-no_more_turns turns o q = rw q (go o)
-  where
-    go : (o : Outcome) → turns_to_list turns o ≤ turns
-    go Outcome.GoesOn = omega arith
-    go (Outcome.Ended n) = omega arith
-    go (Outcome.CutAt i) = omega arith
-    go (Outcome.OtherVersion b) = omega arith
-    go (Outcome.ReadFailed at error) = omega arith
-    go (Outcome.WriteFailed at error) = omega arith
 
 pub no_text : {m : ℕ} (out : List ℕ) (at : ℕ) → Put m out at [] out at
 unfolding written
@@ -66,13 +54,3 @@ module _ {out₀ text : List ℕ} {i : ℕ} {out : List ℕ} (c : Copied out₀ 
     where
       next : (k : ℕ) → k < length text → take (k + 1) text ≡ take k text ++ (get_or text k 0 ∷ [])
       next k g = rw (add-one k) (take-suc text k 0 g)
-
-  pub all : length text ≤ i → Put (length text) out₀ 0 text out i
-  all h =
-      let e : i ≡ length text = omega (arith, c.some) in
-      record {
-        bytes = c.bytes ∙ ap (written out₀ 0) (ap (λ (k : ℕ). take k text) e ∙ take-length text);
-        ends = omega arith;
-        within = omega arith;
-        size = c.size;
-      }

@@ -1,4 +1,3 @@
-pub mod Calls
 pub mod Ending
 pub mod Known
 pub mod Sliding
