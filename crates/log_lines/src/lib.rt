@@ -1,5 +1,6 @@
 // The lines of the listing, as bytes in a lent slice.
 #![tactic(auto)]
+
 pub mod inner;
 
 // What a bunch's line shows of its header, by the header's names.

@@ -1,5 +1,6 @@
 // The packet log: its version byte, and then one record after another.
 #![tactic(auto)]
+
 pub mod inner;
 pub mod reading;
 

@@ -4,7 +4,6 @@ use native.Mathlib.Omega.{arith}
 use mir.Syntax.{w32}
 use mir.ValLaws.{to_z-of_z}
 use Rattle.bitio_bits.specs.Floats.{signed}
-use borrow.Author.Rules.{rules}
 use Rattle.packet_log.proofs.inner.head.Goals as goal
 
 pub returns : goal.returns

@@ -3,7 +3,6 @@ use native.Mathlib.Omega.{arith}
 use mir.Syntax.{w32}
 use mir.ValLaws.{to_z-of_z}
 use Rattle.packet_log.proofs.Entries.{at_end, cut_at, whole_at}
-use borrow.Author.Rules.{rules}
 use Rattle.packet_log.proofs.reading.record_at.Goals as goal
 
 pub returns-then-at-size : goal.returns-then-at-size

@@ -1,6 +1,5 @@
 -- Each way out is one law of Entries, at the tests that led there.
 use Rattle.packet_log.proofs.Entries.{missing, ours, other}
-use borrow.Author.Rules.{rules}
 use Rattle.packet_log.proofs.reading.version.Goals as goal
 
 pub returns-then-bytes-eq0 : goal.returns-then-bytes-eq0

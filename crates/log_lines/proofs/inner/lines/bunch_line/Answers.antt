@@ -1,7 +1,6 @@
 -- The two halves are the line.
 use Rattle.log_lines.proofs.Texts.{then}
 use Rattle.log_lines.proofs.Halves.{halves}
-use borrow.Author.Rules.{rules}
 use Rattle.log_lines.proofs.inner.lines.bunch_line.Goals as goal
 
 pub returns : goal.returns

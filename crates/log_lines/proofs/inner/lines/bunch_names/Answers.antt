@@ -2,7 +2,6 @@
 use mir.Syntax.{w32}
 use mir.ValLaws.{to_z-of_z}
 use Rattle.log_lines.proofs.Texts.{then}
-use borrow.Author.Rules.{rules}
 use Rattle.log_lines.proofs.inner.lines.bunch_names.Goals as goal
 
 pub returns : goal.returns

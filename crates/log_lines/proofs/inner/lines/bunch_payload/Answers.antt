@@ -1,6 +1,5 @@
 -- The fields in a row.
 use Rattle.log_lines.proofs.Texts.{then}
-use borrow.Author.Rules.{rules}
 use Rattle.log_lines.proofs.inner.lines.bunch_payload.Goals as goal
 
 pub returns : goal.returns

@@ -1,6 +1,5 @@
 -- A space and four marks.
 use Rattle.log_lines.proofs.Texts.{then}
-use borrow.Author.Rules.{rules}
 use Rattle.log_lines.proofs.inner.lines.flag_field.Goals as goal
 
 pub returns : goal.returns

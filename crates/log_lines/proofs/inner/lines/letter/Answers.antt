@@ -1,5 +1,4 @@
 -- Two bytes in a row.
-use borrow.Author.Rules.{rules}
 use Rattle.log_lines.proofs.Texts.{then}
 use Rattle.log_lines.proofs.inner.lines.letter.Goals as goal
 

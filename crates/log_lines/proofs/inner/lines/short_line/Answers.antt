@@ -1,6 +1,5 @@
 -- A letter, a number and a newline.
 use Rattle.log_lines.proofs.Texts.{then}
-use borrow.Author.Rules.{rules}
 use Rattle.log_lines.proofs.inner.lines.short_line.Goals as goal
 
 pub returns : goal.returns

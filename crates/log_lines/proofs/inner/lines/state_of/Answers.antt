@@ -1,5 +1,4 @@
 -- The three tests, in their order.
-use borrow.Author.Rules.{rules}
 use Rattle.log_lines.proofs.inner.lines.state_of.Goals as goal
 
 pub returns : goal.returns

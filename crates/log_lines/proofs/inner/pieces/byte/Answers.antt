@@ -1,5 +1,4 @@
 -- One store.
-use borrow.Author.Rules.{rules}
 use Rattle.log_lines.proofs.Texts.{one_byte}
 use Rattle.log_lines.proofs.inner.pieces.byte.Goals as goal
 

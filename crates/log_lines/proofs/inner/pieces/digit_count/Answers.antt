@@ -1,9 +1,5 @@
 -- The digits counted, and those of what is left, are all.
-use mathlib.Core.Path.{◌≡◌}
-use Prim.Native.Nat.{◌+◌}
 use native.Mathlib.Omega.{arith}
-use lib.ListN.{length}
-use Rattle.log_lines.specs.Decimal.{digits, decimal}
 use Rattle.log_lines.proofs.Digits.{count_more, count_all, none_of_zero, short}
 use Rattle.log_lines.proofs.inner.pieces.digit_count.Goals as goal
 

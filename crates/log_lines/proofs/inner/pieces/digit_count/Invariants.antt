@@ -1,9 +1,7 @@
 use mathlib.Core.Path.{◌≡◌}
 use Prim.Native.Nat.{◌+◌}
-use native.Mathlib.Omega.{arith}
 use lib.ListN.{length}
 use Rattle.log_lines.specs.Decimal.{digits, decimal}
-use Rattle.log_lines.proofs.Digits.{count_more, count_all, none_of_zero, short}
 use Rattle.log_lines.proofs.inner.pieces.digit_count.Given as goal
 
 abbrev pub invariant-loop-rest : goal.invariant-loop-rest

@@ -3,11 +3,10 @@ use mathlib.Core.Path.{ap, ◌∙◌}
 use Prim.Native.Nat.{ℕ, ◌+◌, ◌-◌, ◌/◌}
 use native.Mathlib.Omega.{arith}
 use lib.ListN.{set, length-set}
-use borrow.Author.Rules.{rules}
 use Rattle.log_lines.specs.Decimal.{digits}
 use Rattle.log_lines.specs.Texts.{written}
 use Rattle.log_lines.proofs.Digits.{count_more, count_all}
-use Rattle.log_lines.proofs.Back.{Back, begins, goes_back, stops, all_digits}
+use Rattle.log_lines.proofs.Back.{begins, goes_back, stops, all_digits}
 use Rattle.log_lines.proofs.inner.pieces.digits.Goals as goal
 
 pub overflow_sub-place : goal.overflow_sub-place

@@ -2,7 +2,6 @@
 use native.Mathlib.Omega.{arith}
 use Rattle.log_lines.proofs.Digits.{short}
 use Rattle.log_lines.proofs.Texts.{then, at_most}
-use borrow.Author.Rules.{rules}
 use Rattle.log_lines.proofs.inner.pieces.number.Goals as goal
 
 pub digits-requires : goal.digits-requires

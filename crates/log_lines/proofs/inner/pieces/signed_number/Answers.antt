@@ -8,7 +8,6 @@ use native.Mathlib.Omega.{arith}
 use Rattle.log_lines.proofs.Digits.{short}
 use Rattle.log_lines.proofs.Texts.{then, at_most}
 use Rattle.log_lines.proofs.Signs.{not_below, below}
-use borrow.Author.Rules.{rules}
 use Rattle.log_lines.proofs.inner.pieces.signed_number.Goals as goal
 
 pub digits-requires : goal.digits-requires
