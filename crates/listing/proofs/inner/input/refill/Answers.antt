@@ -1,7 +1,13 @@
--- What was left stands at the front, and a read keeps it.
-use Rattle.std.proofs.Common.{sym, ◌∙◌, arith}
+-- What was left stands at the front, and a read keeps it and adds what it brought.
+use Rattle.std.proofs.Common.{sym, refl, ◌∙◌, arith}
 use Rattle.listing.proofs.Sliding.{slid_bytes}
 use Rattle.listing.proofs.inner.input.refill.Goals as goal
+
+pub returns-clause-part : goal.returns-clause-part
+returns-clause-part g c = (
+  record { inside = omega (arith, c.read_more-moved.ensures.within, c.bytes_of.ensures) },
+  record { begins = refl; holds = omega (arith, c.slide-left.ensures.0, c.bytes_of.ensures) },
+)
 
 pub returns-clause-left : goal.returns-clause-left
 returns-clause-left g c =
