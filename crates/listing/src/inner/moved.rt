@@ -1,6 +1,7 @@
 // What a call that moves bytes came to, decided by its answer.
 ghost use Rattle.std.specs.Prelude.{◌≡◌};
-ghost use Rattle.listing.specs.Calls.{error_number, os_number, failed_by, moved_by, bytes_moved, error_of, is_interrupted, if_any, turns_to_write};
+ghost use Rattle.listing.specs.Calls.{error_number, os_number, failed_by, moved_by};
+ghost use Rattle.listing.specs.Calls.{bytes_moved, error_of, is_interrupted, if_any, turns_to_write};
 
 use std::io;
 
