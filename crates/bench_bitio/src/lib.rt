@@ -8,14 +8,7 @@ ghost use Rattle.bench_bitio.specs.Sums.{bit_sum, bits_sum, packed_sum, serializ
 use bitio::{copies, reads};
 use bitio_window::{Bit, Done, PacketBit, U32, U64, Window, WindowBit};
 
-#[unsafe(no_mangle)]
-pub extern "C" fn timing_read_bit(
-    bytes: &[u8],
-    start: u64,
-    position: u64,
-    length: u64,
-    n: u64,
-) -> u64
+pub fn timing_read_bit(bytes: &[u8], start: u64, position: u64, length: u64, n: u64) -> u64
     ensures { result ≡ bit_sum n bytes.now (window_at start position length) }
 {
     let mut w = Window {
@@ -42,14 +35,7 @@ pub extern "C" fn timing_read_bit(
     sum
 }
 
-#[unsafe(no_mangle)]
-pub extern "C" fn timing_read_bits(
-    bytes: &[u8],
-    start: u64,
-    position: u64,
-    length: u64,
-    widths: &[u32],
-) -> u64
+pub fn timing_read_bits(bytes: &[u8], start: u64, position: u64, length: u64, widths: &[u32]) -> u64
     ensures { result ≡ bits_sum widths.now bytes.now (window_at start position length) }
 {
     let mut w = Window {
@@ -76,14 +62,7 @@ pub extern "C" fn timing_read_bits(
     sum
 }
 
-#[unsafe(no_mangle)]
-pub extern "C" fn timing_read_int_packed(
-    bytes: &[u8],
-    start: u64,
-    position: u64,
-    length: u64,
-    n: u64,
-) -> u64
+pub fn timing_read_int_packed(bytes: &[u8], start: u64, position: u64, length: u64, n: u64) -> u64
     ensures { result ≡ packed_sum n bytes.now (window_at start position length) }
 {
     let mut w = Window {
@@ -110,8 +89,7 @@ pub extern "C" fn timing_read_int_packed(
     sum
 }
 
-#[unsafe(no_mangle)]
-pub extern "C" fn timing_read_serialized_int(
+pub fn timing_read_serialized_int(
     bytes: &[u8],
     start: u64,
     position: u64,
@@ -144,8 +122,7 @@ pub extern "C" fn timing_read_serialized_int(
     sum
 }
 
-#[unsafe(no_mangle)]
-pub extern "C" fn timing_copy(
+pub fn timing_copy(
     bytes: &[u8],
     start: u64,
     position: u64,

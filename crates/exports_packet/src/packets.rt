@@ -10,8 +10,7 @@ use bitio_window::PacketBit;
 use packet::packets;
 use packet_reading::RawPacketReader;
 
-#[unsafe(no_mangle)]
-pub extern "C" fn gritwheel_with_max_channels(
+pub fn gritwheel_with_max_channels(
     max_channels: usize,
     sequence_channels: &[u32],
     sequence_numbers: &[u32],
@@ -36,8 +35,7 @@ pub extern "C" fn gritwheel_with_max_channels(
     *out = answer;
 }
 
-#[unsafe(no_mangle)]
-pub extern "C" fn gritwheel_read_bunch(
+pub fn gritwheel_read_bunch(
     packet: &[u8],
     packet_id: i32,
     at: u64,
