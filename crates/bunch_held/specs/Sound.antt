@@ -34,7 +34,9 @@ place_sound p bytes = words_sound p && spare_zero (bits_in_place p) bytes
 unfoldable pub places_sound : List (List ℕ) → List ℕ → ℕ → Bool
 places_sound [] arena left = eqb left 0
 places_sound (p ∷ ps) arena left =
-    leb (bits_in_place p) left && place_sound p (take (size_of p) arena) && places_sound ps (drop (size_of p) arena) (left - bits_in_place p)
+    leb (bits_in_place p) left
+    && place_sound p (take (size_of p) arena)
+    && places_sound ps (drop (size_of p) arena) (left - bits_in_place p)
 
 -- "the rules of opening hold, no channel twice, live count and total within limits, …"
 unfoldable pub memory_sound : Accumulator → HeldMemory → Bool

@@ -79,7 +79,8 @@ accepted_by x done m f = accepted (after_test m f.header) (eqb f.bits 0) done (b
 unfoldable pub result_of : Fate → Found Held → Fragment → PartialBunchResult
 result_of Fate.TurnedAway m f = turned_away f.header f.bits
 result_of (Fate.Breaks k) m f = broken k f.header (bits_of_all (displaced (Fate.Breaks k) m f) + f.bits)
-result_of (Fate.Fails c) m f = failed c (after_test m f.header) (bits_of_all (displaced (Fate.Fails c) m f) + f.bits) (overlap_errors m f + 1)
+result_of (Fate.Fails c) m f =
+    failed c (after_test m f.header) (bits_of_all (displaced (Fate.Fails c) m f) + f.bits) (overlap_errors m f + 1)
 result_of Fate.Joins m f = accepted_by Fate.Joins false m f
 result_of Fate.Finishes m f = accepted_by Fate.Finishes true m f
 result_of Fate.Falls m f = accepted_by Fate.Falls false m f

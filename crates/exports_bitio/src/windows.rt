@@ -1,6 +1,7 @@
 // Windows, and moving in them.
 ghost use Rattle.std.specs.Prelude.{◌≡◌};
-ghost use Rattle.bitio_window.specs.Windows.{window_at, new_window, with_bit_len, bits_remaining, at_end, sub_reader, skip_bits, skip_remaining};
+ghost use Rattle.bitio_window.specs.Windows.{window_at, new_window, with_bit_len, bits_remaining, at_end};
+ghost use Rattle.bitio_window.specs.Windows.{sub_reader, skip_bits, skip_remaining};
 ghost use Rattle.exports_words.specs.Words.{words, opened_words, count_words, none, window_words};
 
 use bitio::windows;

@@ -1,7 +1,8 @@
 // Answers as words.
 ghost use Rattle.std.specs.Prelude.{◌≡◌, [], ◌∷◌, ◌++◌, length};
 ghost use Rattle.bitio_window.specs.Refusals.{paper};
-ghost use Rattle.bitio_window.specs.Answers.{of_done, of_bit, of_u8, of_u16, of_u32, of_i32, of_u64, of_f32, of_f64, of_sub, of_opened, of_count};
+ghost use Rattle.bitio_window.specs.Answers.{of_done, of_bit, of_sub, of_opened, of_count};
+ghost use Rattle.bitio_window.specs.Answers.{of_u8, of_u16, of_u32, of_i32, of_u64, of_f32, of_f64};
 ghost use Rattle.bitio_window.specs.Windows.{window_at};
 ghost use Rattle.exports_words.specs.Words.{seven, refusal_words, words, opened_words, count_words, none, one, flag_word};
 ghost use Rattle.exports_words.specs.Words.{signed_word, window_words, pattern};

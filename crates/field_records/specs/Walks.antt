@@ -16,7 +16,8 @@ parse (Stream.ClassNetCache count) = parse_class_net_cache count
 
 -- the walk into the first n places; those behind them stay
 abbrev pub on_first : ℕ → List (List ℕ) → (List (List ℕ) → Walked) → Walked
-on_first n ps on = record { places = (on (take n ps)).places ++ drop n ps; count = (on (take n ps)).count; answer = (on (take n ps)).answer }
+on_first n ps on =
+    record { places = (on (take n ps)).places ++ drop n ps; count = (on (take n ps)).count; answer = (on (take n ps)).answer }
 
 unfoldable pub walked_into : ℕ → Stream → List ℕ → List (List ℕ) → Window → Walked
 walked_into n s d ps w = on_first n ps (λ qs. parse s d qs w)

@@ -30,4 +30,5 @@ agree false b = not b
 unfoldable pub continues : Partial → Bool → ℕ → Bool
 continues p reliable sequence =
     agree (is_reliable p) reliable
-    && ((not (eqb (sequence_of p) last_sequence) && eqb sequence (following (sequence_of p))) || (not reliable && eqb sequence (sequence_of p)))
+    && ((not (eqb (sequence_of p) last_sequence) && eqb sequence (following (sequence_of p)))
+    || (not reliable && eqb sequence (sequence_of p)))

@@ -86,7 +86,8 @@ fn joined(
 ) -> Displaced
     requires { (standing_bits held ≤ most_buffered_bits) × (bits ≤ longest_payload) }
     ensures { (bytes payload : List ℕ)
-        → result ≡ value_of (displaced_of (joined_to (base (held_of held words bytes) header).message (fragment_of header bits payload)) cause) }
+        → result ≡ value_of (displaced_of
+        (joined_to (base (held_of held words bytes) header).message (fragment_of header bits payload)) cause) }
 {
     match held {
         Standing::Nothing => Displaced {
