@@ -37,6 +37,14 @@ def folder(crate):
     return os.path.join(ROOT, "crates", crate)
 
 
+def archived(name):
+    """The static library whose archive is libNAME.a."""
+    for crate in (name, name + "_c"):
+        if CRATES.get(crate, (False,))[0]:
+            return crate
+    sys.exit(f"crates.txt has no static library {name}")
+
+
 def below(crate):
     """The repository's libraries that it stands on, each after those that it uses."""
     found = {}
@@ -72,19 +80,28 @@ def rattle(words, cwd):
     return run.returncode, run.stdout
 
 
+def is_of_sources(made, crates):
+    """Whether the file or folder is there, and no source of the crates is younger."""
+    if not os.path.exists(made):
+        return False
+    when = os.stat(made).st_mtime
+    for name in crates:
+        for part in PARTS:
+            for at, _, files in os.walk(os.path.join(folder(name), part)):
+                if any(os.stat(os.path.join(at, file)).st_mtime > when for file in files):
+                    return False
+    return True
+
+
 def is_by_ci(crate):
     """Whether what stands below the crate is what `rt ci` proved of the sources as they are.
 
     It leaves the libraries so in a checkout that had none, and without the mark by which `rt lib` knows its own."""
     for name in below(crate):
-        made, mark = rlib(name), os.path.join(folder(name), "out/rlib/stamp")
-        if os.path.exists(mark) or not os.path.exists(os.path.join(made, "format")):
+        if os.path.exists(os.path.join(folder(name), "out/rlib/stamp")) or not os.path.exists(os.path.join(rlib(name), "format")):
             return False
-        when = os.stat(made).st_mtime
-        for part in PARTS:
-            for at, _, files in os.walk(os.path.join(folder(name), part)):
-                if any(os.stat(os.path.join(at, file)).st_mtime > when for file in files):
-                    return False
+        if not is_of_sources(rlib(name), [name]):
+            return False
     return True
 
 

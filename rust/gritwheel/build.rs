@@ -2,7 +2,7 @@
 
 use std::path::{Path, PathBuf};
 
-/// What `rt staticlib` makes, an archive for each part.
+/// What `include/libraries` makes, an archive for each part.
 const PARTS: [&str; 5] = ["exports_bitio", "exports_field", "exports_packet", "exports_writer", "exports_bunch"];
 
 /// What an installation has instead: all in one.
@@ -46,9 +46,8 @@ fn main() {
         places.iter().for_each(|dir| println!("cargo::error=Gritwheel's library is not in {}", dir.display()));
     }
     println!(
-        "cargo::error=Make it in the repository's root: for c in {}; do rt staticlib $c; done \
-         (for x86-64 Linux). Or name its folder in GRITWHEEL_LIB_DIR: one with libgritwheel.a, \
-         or with these five.",
+        "cargo::error=Make it in the repository's root: include/libraries (for x86-64 Linux). Or name its \
+         folder in GRITWHEEL_LIB_DIR: one with libgritwheel.a, or with these five: {}.",
         PARTS.join(" ")
     );
 }
