@@ -1,4 +1,5 @@
-// Many reads in one call, for bench/ to time: through `bitio`'s public calls.
+// Many reads in one call, for bench/ to time: through `bitio`'s public calls. A loop for each call and none over a closure: what is timed
+// is the call as a program writes it.
 #![tactic(auto)]
 
 ghost use Rattle.std.specs.Prelude.{◌≡◌};
@@ -6,7 +7,7 @@ ghost use Rattle.bitio_window.specs.Windows.{window_at};
 ghost use Rattle.bench_bitio.specs.Sums.{bit_sum, bits_sum, packed_sum, serialized_sum, copies_made};
 
 use bitio::{copies, reads};
-use bitio_window::{Bit, Done, PacketBit, U32, U64, Window, WindowBit};
+use bitio_window::{PacketBit, Window, WindowBit};
 
 pub fn timing_read_bit(bytes: &[u8], start: u64, position: u64, length: u64, n: u64) -> u64
     ensures { result ≡ bit_sum n bytes.now (window_at start position length) }
@@ -17,20 +18,15 @@ pub fn timing_read_bit(bytes: &[u8], start: u64, position: u64, length: u64, n: 
         length,
     };
     let mut sum: u64 = 0;
-    let mut k: u64 = 0;
-    while k < n {
-        let read = reads::read_bit(bytes, w);
-        let answer = read.answer;
-        match answer {
-            Bit::Refused(_) => {
+    for _k in 0..n {
+        match reads::read_bit(bytes, &mut w) {
+            Ok(v) => {
+                sum = sum.wrapping_add(v.into());
+            }
+            Err(_) => {
                 return sum;
             }
-            Bit::Value(v) => {
-                sum = std::num::wrapping_add_u64(sum, v as u64);
-            }
         }
-        w = read.next;
-        k += 1;
     }
     sum
 }
@@ -44,20 +40,15 @@ pub fn timing_read_bits(bytes: &[u8], start: u64, position: u64, length: u64, wi
         length,
     };
     let mut sum: u64 = 0;
-    let mut k: usize = 0;
-    while k < widths.len() {
-        let read = reads::read_bits(bytes, w, widths[k]);
-        let answer = read.answer;
-        match answer {
-            U64::Refused(_) => {
+    for width in widths {
+        match reads::read_bits(bytes, &mut w, *width) {
+            Ok(v) => {
+                sum = sum.wrapping_add(v);
+            }
+            Err(_) => {
                 return sum;
             }
-            U64::Value(v) => {
-                sum = std::num::wrapping_add_u64(sum, v);
-            }
         }
-        w = read.next;
-        k += 1;
     }
     sum
 }
@@ -71,20 +62,15 @@ pub fn timing_read_int_packed(bytes: &[u8], start: u64, position: u64, length: u
         length,
     };
     let mut sum: u64 = 0;
-    let mut k: u64 = 0;
-    while k < n {
-        let read = reads::read_int_packed(bytes, w);
-        let answer = read.answer;
-        match answer {
-            U32::Refused(_) => {
+    for _k in 0..n {
+        match reads::read_int_packed(bytes, &mut w) {
+            Ok(v) => {
+                sum = sum.wrapping_add(v.into());
+            }
+            Err(_) => {
                 return sum;
             }
-            U32::Value(v) => {
-                sum = std::num::wrapping_add_u64(sum, v as u64);
-            }
         }
-        w = read.next;
-        k += 1;
     }
     sum
 }
@@ -104,20 +90,15 @@ pub fn timing_read_serialized_int(
         length,
     };
     let mut sum: u64 = 0;
-    let mut k: usize = 0;
-    while k < maxima.len() {
-        let read = reads::read_serialized_int(bytes, w, maxima[k]);
-        let answer = read.answer;
-        match answer {
-            U32::Refused(_) => {
+    for max in maxima {
+        match reads::read_serialized_int(bytes, &mut w, *max) {
+            Ok(v) => {
+                sum = sum.wrapping_add(v.into());
+            }
+            Err(_) => {
                 return sum;
             }
-            U32::Value(v) => {
-                sum = std::num::wrapping_add_u64(sum, v as u64);
-            }
         }
-        w = read.next;
-        k += 1;
     }
     sum
 }
@@ -138,18 +119,16 @@ pub fn timing_copy(
         position: WindowBit(position),
         length,
     };
-    let mut k: usize = 0;
-    while k < counts.len() {
-        let read = copies::copy_bits_to(bytes, w, target, counts[k]);
-        let answer = read.answer;
-        match answer {
-            Done::Refused(_) => {
-                return k as u64;
+    let mut made: u64 = 0;
+    for count in counts {
+        match copies::copy_bits_to(bytes, &mut w, target, *count) {
+            Ok(()) => {
+                made += 1;
             }
-            Done::Value => {}
+            Err(_) => {
+                return made;
+            }
         }
-        w = read.next;
-        k += 1;
     }
-    k as u64
+    made
 }

@@ -1,7 +1,10 @@
 -- A row in progress: what is still to come is what the whole comes to.
-use Rattle.std.proofs.Common.{◌≡◌, ℕ, suc, ◌+◌, ◌-◌, ◌%◌, ◌^◌, ◌<◌, ◌≤◌, List, ◌∷◌, length, get_or, drop, sym, refl, ap, ◌∙◌, arith, drop_of_length-le, drop-cons}
+use Rattle.std.proofs.Common.{◌≡◌, ℕ, suc, ◌+◌, ◌-◌, ◌%◌, ◌^◌, ◌<◌, ◌≤◌, List, [], ◌∷◌, length, get_or, drop, sym, refl, ap, ◌∙◌, arith, drop_of_length-le, drop-cons}
 use native.Mathlib.Nat.{sub-zero}
-use Rattle.bench_bunch.specs.Chains.{summed, Run, turns}
+use Rattle.bunch_held.specs.declared.Accumulator.{Accumulator}
+use Rattle.bunch_held.specs.Memory.{held_memory}
+use Rattle.bunch_settling.specs.Settling.{Using}
+use Rattle.bench_bunch.specs.Chains.{summed, Run, run, turns, Ends}
 
 -- a sum of words, of which those from number k on are to come
 module _ (words : List ℕ) {whole : ℕ} (sum k : ℕ) (row : summed sum (drop k words) ≡ whole) where
@@ -35,3 +38,11 @@ module _ (go : ℕ → Run → Run) (n k : ℕ) (x : Run) {whole : Run} (row : t
 
 pub turns_begin : (go : ℕ → Run → Run) (n : ℕ) (x : Run) → turns go (n - 0) 0 x ≡ turns go n 0 x
 turns_begin go n x = ap (λ (m : ℕ). turns go m 0 x) (sub-zero n)
+
+-- the end, where the memory comes back in its three slices
+pub ended : {x : Run} (a : Accumulator) {channels arena channels' arena' output : List ℕ} {places places' : List (List ℕ)} {sum used : ℕ} → run a (held_memory channels places arena) output sum ≡ x
+    → Using a (held_memory channels places arena) used → channels' ≡ channels → places' ≡ places → arena' ≡ arena
+    → Ends x (sum ∷ a.active ∷ a.total_buffered_bits ∷ []) (held_memory channels' places' arena') output used
+ended a e u c p m =
+    rw (sym e, c, p, m)
+    (record { said = refl; leaves = refl; writes = refl; goes_on = u })

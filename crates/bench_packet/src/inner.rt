@@ -7,10 +7,11 @@ ghost use Rattle.packet_reading.specs.State.{TablesSound};
 ghost use Rattle.packet_reading.specs.Answers.{read_reply};
 ghost use Rattle.exports_packet.specs.Packets.{bunch_words};
 
+use bitio_window::PacketBit;
 use exports_packet::bunches;
 use exports_packet::bunches::BunchWords;
-use packet_reading::RawPacketReader;
 use packet_reading::inner::read;
+use packet_reading::{RawPacketReader, ReaderColumns};
 
 #[unsafe(no_mangle)]
 pub extern "C" fn timing_read_bunch(
@@ -39,21 +40,19 @@ pub extern "C" fn timing_read_bunch(
         let reply = read_reply (next_bunch max_channels packet.now id at (tables_of sequences partials before)) before in
         (out.new ≡ bunch_words reply) × (after ≡ reply.memory) }
 {
-    let read = read::read(
-        packet,
-        id,
-        at,
-        RawPacketReader {
-            max_channels,
-            live_sequences: sequences,
-            live_partials: partials,
-        },
+    let mut cursor = PacketBit(at);
+    let mut reader = RawPacketReader {
+        max_channels,
+        live_sequences: sequences,
+        live_partials: partials,
+    };
+    let mut columns = ReaderColumns {
         sequence_channels,
         sequence_numbers,
         partial_channels,
         partial_sequences,
         partial_reliables,
-    );
-    let answer = bunches::of_read(read);
-    *out = answer;
+    };
+    let read = read::read(packet, id, &mut cursor, &mut reader, &mut columns);
+    *out = bunches::of_read(Ok(read), cursor, reader);
 }

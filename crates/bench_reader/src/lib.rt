@@ -7,7 +7,7 @@ ghost use Rattle.bitio_window.specs.Windows.{window_at};
 ghost use Rattle.bench_bitio.specs.Sums.{bits_sum, packed_sum};
 
 use bitio_reader::plain;
-use bitio_window::{PacketBit, U32, U64, Window, WindowBit};
+use bitio_window::{PacketBit, Window, WindowBit};
 
 #[unsafe(no_mangle)]
 pub extern "C" fn timing_reader_read_bits(
@@ -25,20 +25,15 @@ pub extern "C" fn timing_reader_read_bits(
         length,
     };
     let mut sum: u64 = 0;
-    let mut k: usize = 0;
-    while k < widths.len() {
-        let read = plain::read_bits(bytes, w, widths[k]);
-        let answer = read.answer;
-        match answer {
-            U64::Refused(_) => {
+    for width in widths {
+        match plain::read_bits(bytes, &mut w, *width) {
+            Ok(v) => {
+                sum = sum.wrapping_add(v);
+            }
+            Err(_) => {
                 return sum;
             }
-            U64::Value(v) => {
-                sum = std::num::wrapping_add_u64(sum, v);
-            }
         }
-        w = read.next;
-        k += 1;
     }
     sum
 }
@@ -59,20 +54,15 @@ pub extern "C" fn timing_reader_read_int_packed(
         length,
     };
     let mut sum: u64 = 0;
-    let mut k: u64 = 0;
-    while k < n {
-        let read = plain::read_int_packed(bytes, w);
-        let answer = read.answer;
-        match answer {
-            U32::Refused(_) => {
+    for _k in 0..n {
+        match plain::read_int_packed(bytes, &mut w) {
+            Ok(v) => {
+                sum = sum.wrapping_add(v.into());
+            }
+            Err(_) => {
                 return sum;
             }
-            U32::Value(v) => {
-                sum = std::num::wrapping_add_u64(sum, v as u64);
-            }
         }
-        w = read.next;
-        k += 1;
     }
     sum
 }

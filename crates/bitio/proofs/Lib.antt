@@ -1,4 +1,4 @@
 pub mod Tests
-pub mod Determined
 pub mod Values
 pub mod CopyTests
+pub mod Determined

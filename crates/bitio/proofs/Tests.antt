@@ -7,12 +7,13 @@ use lib.ListN.{length}
 use borrow.Author.Tests.{lt-ltb, le-ltb, ltb-false}
 use Rattle.bitio_window.specs.declared.Window.{Window}
 use Rattle.bitio_window.specs.declared.BitError.{BitError}
-use Rattle.bitio_window.specs.declared.Done.{Done}
+use Rattle.std.specs.Prelude.{Result, Ok, Err, IsErrAnd}
 use Rattle.bitio_window.specs.Refusals.{paper, too_long, beyond}
-use Rattle.bitio_window.specs.Parse.{got, refused, Parse, ◌>>◌, give, refuse, refuse_if}
+use Rattle.bitio_window.specs.Parse.{got, refused, refusal, Parse, ◌>>◌, give, refuse, refuse_if}
 use Rattle.bitio_window.specs.Reads.{largest_data, data_fits, window_fits, cursor_fits, sound}
-use Rattle.bitio_window.specs.Answers.{done_answer}
+use Rattle.bitio_window.specs.Answers.{answer, outcome}
 use Rattle.bitio_window.specs.Sound.{Sound}
+use Rattle.bitio_window.proofs.Handed.{handed_on}
 use Rattle.bitio_window.proofs.Rows.{ahead, regroup, next_got, next_refused}
 
 module _ (d : List ℕ) (w : Window) where
@@ -46,13 +47,18 @@ module _ (d : List ℕ) (w : Window) where
   unfolding give
   passed h = (passes {A = Unit {0}} (give tt) {a = tt} {u = w} (next_got d w sound (give tt) h)).0
 
--- what a call that tests first has learnt from the answer r of its test
-module _ (d : List ℕ) (w : Window) {r : Done} (told : done_answer r w ≡ sound d w) where
-  pub stopped : {A : Type 0} (q : Parse A) {e : BitError} → r ≡ Done.Refused e → refused (paper e) w ≡ (sound >> q) d w
-  stopped q h = sym (next_refused d w sound q (sym told ∙ ap (λ (x : Done). done_answer x w) h))
+-- what a call that tests first has learnt from its test
+module _ {A : Type 0} (d : List ℕ) (w : Window) (q : Parse A) where
+  pub stopped : (r : Result A BitError) (e : BitError) → IsErrAnd r (λ x. x ≡ e) → refused (paper e) w ≡ sound d w → answer r w ≡ (sound >> q) d w
+  stopped r e h told = handed_on r e w h ∙ sym (next_refused d w sound q (sym told))
 
-  pub went_on : {A : Type 0} (q : Parse A) → r ≡ Done.Value → (sound >> q) d w ≡ q d w
-  went_on q h = next_got d w sound q (sym told ∙ ap (λ (x : Done). done_answer x w) h)
+  pub went_on : got tt w ≡ sound d w → (sound >> q) d w ≡ q d w
+  went_on told = next_got d w sound q (sym told)
 
-  pub tested : r ≡ Done.Value → Sound d w
-  tested h = passed d w (sym told ∙ ap (λ (x : Done). done_answer x w) h)
+pub tested : (d : List ℕ) (w : Window) → got tt w ≡ sound d w → Sound d w
+tested d w told = passed d w (sym told)
+
+-- what a `?` hands on of a call that moves no reader
+pub handed_out : {A : Type 0} (r : Result A BitError) (e : BitError) → IsErrAnd r (λ x. x ≡ e) → outcome r ≡ refusal (paper e)
+handed_out (Ok v) e h = absurd h
+handed_out (Err x) e h = ap (λ (y : BitError). refusal (paper y)) h

@@ -4,14 +4,15 @@ use mathlib.Core.List.{List}
 use Prim.Native.Nat.{ℕ, ◌+◌, ◌^◌, ◌%◌, ◌<◌}
 use native.Mathlib.Nat.{mod-eq_of_lt}
 use lib.Dec.{ltb}
+use Rattle.std.specs.Prelude.{Float, Result, Ok, Err, IsErrAnd}
 use Rattle.bitio_window.specs.declared.Window.{Window}
 use Rattle.bitio_window.specs.declared.BitError.{BitError}
-use Rattle.bitio_window.specs.declared.U64.{U64}
+use Rattle.bitio_window.specs.declared.Decoded.{Decoded as Pattern}
+use Rattle.bitio_window.specs.Answers.{answer_of, decoded_of}
 use Rattle.bitio_bits.specs.Bits.{bits_at}
 use Rattle.bitio_window.specs.Refusals.{Refusal, paper, too_wide}
 use Rattle.bitio_window.specs.Parse.{Parse, got, refused, ◌>>=◌, ◌>>◌, give, refuse_if}
 use Rattle.bitio_window.specs.Reads.{sound, need, bits_taken, bits, read_bits}
-use Rattle.bitio_window.specs.Answers.{u64_answer}
 use Rattle.bitio_bits.proofs.Numbers.{bits_lt}
 use Rattle.bitio_window.proofs.Rows.{from_last, then_got, then_refused}
 
@@ -25,14 +26,8 @@ module _ (d : List ℕ) (w : Window) (n : ℕ) where
       let e : bits_at d (read.0.start.0 + read.0.position.0) n ≡ v = cc in
       rw e at (bits_lt d (read.0.start.0 + read.0.position.0) n)
 
-  module _ {a : U64} {u : Window} (told : u64_answer a u ≡ read_bits n d w) where
-    pub narrowed : {v : ℕ} → a ≡ U64.Value v → got (v % 2 ^ n) u ≡ read_bits n d w
-    narrowed {v} h =
-        let e : read_bits n d w ≡ got v u = sym told ∙ ap (λ (x : U64). u64_answer x u) h in
-        ap (λ (x : ℕ). got x u) (mod-eq_of_lt (read_lt e)) ∙ sym e
-
-    pub handed_on : {e : BitError} → a ≡ U64.Refused e → refused (paper e) u ≡ read_bits n d w
-    handed_on h = ap (λ (x : U64). u64_answer x u) (sym h) ∙ told
+  pub narrowed : {v : ℕ} {u : Window} → got v u ≡ read_bits n d w → got (v % 2 ^ n) u ≡ read_bits n d w
+  narrowed {v} {u} told = ap (λ (x : ℕ). got x u) (mod-eq_of_lt (read_lt (sym told))) ∙ told
 
 -- what is made of the number that a read gave
 module _ {A B : Type 0} (p : Parse A) (f : A → B) (d : List ℕ) (w : Window) {u : Window} where
@@ -42,3 +37,8 @@ module _ {A B : Type 0} (p : Parse A) (f : A → B) (d : List ℕ) (w : Window) 
 
   pub not_made : {e : Refusal} → refused e u ≡ p d w → refused e u ≡ (p >>= (λ a. give (f a))) d w
   not_made e = sym (then_refused d w p (λ a. give (f a)) (sym e))
+
+-- what a `?` hands on of a float's read
+pub float_refused : (r : Result (Pattern Float ℕ) BitError) (e : BitError) (u : Window) → IsErrAnd r (λ x. x ≡ e) → answer_of decoded_of r u ≡ refused (paper e) u
+float_refused (Ok v) e u h = absurd h
+float_refused (Err x) e u h = ap (λ (y : BitError). refused (paper y) u) h

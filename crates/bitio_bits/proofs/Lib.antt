@@ -2,3 +2,4 @@ pub mod Numbers
 pub mod Loads
 pub mod Floats
 pub mod Signed
+pub mod Masks

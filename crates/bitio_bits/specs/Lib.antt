@@ -1,3 +1,4 @@
 pub mod Bits
 pub mod Floats
 pub mod Words
+pub mod Masks

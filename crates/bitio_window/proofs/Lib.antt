@@ -1,3 +1,4 @@
+pub mod Handed
 pub mod Rows
 pub mod Steps
 pub mod Copied

@@ -13,7 +13,7 @@ use Rattle.bitio_bits.specs.Bits.{bits_at}
 use Rattle.bitio_window.specs.Refusals.{too_few_bits, endless, too_large, place_of}
 use Rattle.bitio_window.specs.Parse.{Answer, got, refused, and_then, ◌>>=◌, ◌>>◌, place, refuse_if, refuse, read_if, give, advanced}
 use Rattle.bitio_window.specs.Numbers.{packed_from, packed}
-use Rattle.bitio_window.proofs.Steps.{bits_short, bits_there, advanced_past}
+use Rattle.bitio_window.proofs.Steps.{advanced_none, bits_short, bits_there, advanced_past}
 
 -- the answer, as the higher chunks of a number whose lower ones are v, and below s
 abbrev pub above : ℕ → ℕ → Answer ℕ → Answer ℕ
@@ -70,7 +70,7 @@ module _ (d : List ℕ) (w : Window) where
         below = omega arith;
         rest = λ h.
             sym (above_none (packed_from 4 (place_of w) d (advanced w 0))
-            ∙ ap (packed_from 4 (place_of w) d) (ap (λ (q : ℕ). record { start = w.start; position = record { 0 = q }; length = w.length }) (add-zero w.position.0)));
+            ∙ ap (packed_from 4 (place_of w) d) (advanced_none w));
         over = λ h. absurd (omega arith);
       }
 

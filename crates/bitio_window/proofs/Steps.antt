@@ -2,6 +2,7 @@
 use mathlib.Core.Path.{◌≡◌, ap}
 use mathlib.Core.List.{List}
 use Prim.Native.Nat.{ℕ, ◌+◌, ◌-◌, ◌≤◌, ◌<◌}
+use native.Mathlib.Nat.{add-zero}
 use native.Mathlib.Omega.{arith}
 use lib.Dec.{eqb}
 use borrow.Author.Tests.{lt-ltb, le-ltb}
@@ -12,6 +13,9 @@ use Rattle.bitio_window.specs.Parse.{got, refused, ◌>>=◌, ◌>>◌, refuse_i
 use Rattle.bitio_window.specs.Reads.{need, bits_taken, passed, skip, bits, bit}
 use Rattle.bitio_window.specs.Windows.{child, handed_out, sub}
 use Rattle.bitio_window.specs.Sound.{Sound}
+
+pub advanced_none : (w : Window) → advanced w 0 ≡ w
+advanced_none w = ap (λ (q : ℕ). record { start = w.start; position = record { 0 = q }; length = w.length }) (add-zero w.position.0)
 
 pub advanced_past : (w : Window) (m n p : ℕ) → m + n ≡ p → advanced (advanced w m) n ≡ advanced w p
 advanced_past w m n p e =

@@ -11,16 +11,17 @@ pub const MAX_DATA_BYTES: usize = 67108864;
 
 // A bit's place counted from the window's first bit: the Rust's `pos`.
 #[repr(C)]
-#[derive(Clone, Copy)]
+#[derive(Clone, Copy, Debug, PartialEq, Eq, PartialOrd, Ord)]
 pub struct WindowBit(pub u64);
 
 // A bit's place counted from the packet's first bit: the Rust's `start_bit + pos`.
 #[repr(C)]
-#[derive(Clone, Copy)]
+#[derive(Clone, Copy, Debug, PartialEq, Eq, PartialOrd, Ord)]
 pub struct PacketBit(pub u64);
 
-// The Rust's `BitReader` without its slice, which stands beside it in every call.
-#[derive(Clone, Copy)]
+// The Rust's `BitReader` without its slice. A read moves it, also where it refuses. The slice stands beside it in every call, since
+// document 01 has a plain cursor, and above it a thin reader that keeps both (`bitio_reader`).
+#[derive(Clone, Copy, Debug, PartialEq, Eq)]
 pub struct Window {
     pub start: PacketBit,
     pub position: WindowBit,
@@ -28,7 +29,7 @@ pub struct Window {
 }
 
 // The position that a refusal carries. It is made by `place_of` alone.
-#[derive(Clone, Copy)]
+#[derive(Clone, Copy, Debug, PartialEq, Eq)]
 pub struct Place {
     pub at: WindowBit,
 }
@@ -36,12 +37,11 @@ pub struct Place {
 pub fn place_of(w: Window) -> Place
     ensures { result ≡ place_of w }
 {
-    let at = w.position;
-    Place { at }
+    Place { at: w.position }
 }
 
 // Why a call refused, each case with document 01's number.
-#[derive(Clone, Copy)]
+#[derive(Clone, Copy, Debug, PartialEq, Eq)]
 pub enum BitError {
     // 1
     Eof {
@@ -76,126 +76,13 @@ pub enum BitError {
     },
 }
 
-// What a call answers, and where the reader then stands: the Rust's result, and its `&mut self`.
+// A float, or the bits of a pattern that stands for no number: a float can't carry them.
 #[derive(Clone, Copy)]
-pub enum Done {
-    Value,
-    Refused(BitError),
+pub enum Decoded<N, B> {
+    Number(N),
+    NoNumber(B),
 }
 
-#[derive(Clone, Copy)]
-pub struct DoneRead {
-    pub answer: Done,
-    pub next: Window,
-}
+pub type F32 = Decoded<f32, u32>;
 
-#[derive(Clone, Copy)]
-pub enum Bit {
-    Value(bool),
-    Refused(BitError),
-}
-
-#[derive(Clone, Copy)]
-pub struct BitRead {
-    pub answer: Bit,
-    pub next: Window,
-}
-
-#[derive(Clone, Copy)]
-pub enum U8 {
-    Value(u8),
-    Refused(BitError),
-}
-
-#[derive(Clone, Copy)]
-pub struct U8Read {
-    pub answer: U8,
-    pub next: Window,
-}
-
-#[derive(Clone, Copy)]
-pub enum U16 {
-    Value(u16),
-    Refused(BitError),
-}
-
-#[derive(Clone, Copy)]
-pub struct U16Read {
-    pub answer: U16,
-    pub next: Window,
-}
-
-#[derive(Clone, Copy)]
-pub enum U32 {
-    Value(u32),
-    Refused(BitError),
-}
-
-#[derive(Clone, Copy)]
-pub struct U32Read {
-    pub answer: U32,
-    pub next: Window,
-}
-
-#[derive(Clone, Copy)]
-pub enum I32 {
-    Value(i32),
-    Refused(BitError),
-}
-
-#[derive(Clone, Copy)]
-pub struct I32Read {
-    pub answer: I32,
-    pub next: Window,
-}
-
-#[derive(Clone, Copy)]
-pub enum U64 {
-    Value(u64),
-    Refused(BitError),
-}
-
-#[derive(Clone, Copy)]
-pub struct U64Read {
-    pub answer: U64,
-    pub next: Window,
-}
-
-// A pattern that stands for no number is handed out as its bits: a float can't carry them.
-#[derive(Clone, Copy)]
-pub enum F32 {
-    Value(f32),
-    NotANumber(u32),
-    Refused(BitError),
-}
-
-#[derive(Clone, Copy)]
-pub struct F32Read {
-    pub answer: F32,
-    pub next: Window,
-}
-
-#[derive(Clone, Copy)]
-pub enum F64 {
-    Value(f64),
-    NotANumber(u64),
-    Refused(BitError),
-}
-
-#[derive(Clone, Copy)]
-pub struct F64Read {
-    pub answer: F64,
-    pub next: Window,
-}
-
-#[derive(Clone, Copy)]
-pub enum Opened {
-    Value(Window),
-    Refused(BitError),
-}
-
-#[derive(Clone, Copy)]
-pub struct SubRead {
-    pub answer: Opened,
-    pub next: Window,
-}
+pub type F64 = Decoded<f64, u64>;

@@ -36,21 +36,21 @@ unfolding sum_of
 sizes_less [] = omega arith
 sizes_less (p ∷ ps) = omega (arith, sizes_less ps, size_at_most p)
 
--- a turn over the first `live` places, at place i
-pub record Turn (ps : List (List ℕ)) (live i : ℕ) : Type 0 where
+-- a turn over the places, at place i
+pub record Turn (ps : List (List ℕ)) (i : ℕ) : Type 0 where
   pub messages : sum_of shown_count (take (i + 1) ps) ≡ sum_of shown_count (take i ps) + shown_count (get_or ps i [])
   pub bytes : sum_of shown_size (take (i + 1) ps) ≡ sum_of shown_size (take i ps) + shown_size (get_or ps i [])
   pub few_messages : sum_of shown_count (take (i + 1) ps) ≤ i + 1
-  pub few_bytes : 8 * sum_of shown_size (take (i + 1) ps) ≤ bits_all (take live ps) + 7 * live
-  pub few_bits : bits_in_place (get_or ps i []) ≤ bits_all (take live ps)
+  pub few_bytes : 8 * sum_of shown_size (take (i + 1) ps) ≤ bits_all ps + 7 * length ps
+  pub few_bits : bits_in_place (get_or ps i []) ≤ bits_all ps
 
-pub turn : (ps : List (List ℕ)) (live i : ℕ) → i < live → live ≤ length ps → Turn ps live i
-turn ps live i h f =
+pub turn : (ps : List (List ℕ)) (i : ℕ) → i < length ps → Turn ps i
+turn ps i h =
     let e : i + 1 ≡ suc i = omega arith in
-    let t = S.turn ps live i h f in
+    let t = S.turn ps i h in
     record {
-      messages = rw e (S.sum_more shown_count ps i (omega arith));
-      bytes = rw e (S.sum_more shown_size ps i (omega arith));
+      messages = rw e (S.sum_more shown_count ps i h);
+      bytes = rw e (S.sum_more shown_size ps i h);
       few_messages = omega (arith, counts_few (take (i + 1) ps), length-take-le (i + 1) ps (omega arith));
       few_bytes = omega (arith, sizes_less (take (i + 1) ps), t.fits);
       few_bits = t.few;

@@ -1,39 +1,22 @@
 -- The tests before a drain, each way of them, and what the places count for.
 use Prim.Native.Nat.{ℕ, ◌≤◌, ◌<◌}
-use mathlib.Core.Path.{◌≡◌, refl}
-use mathlib.Core.Bool.{Bool, true, false, cond}
+use mathlib.Core.Path.{◌≡◌}
+use mathlib.Core.Bool.{true, false}
 use mathlib.Core.List.{List}
 use lib.ListN.{length, take}
 use borrow.Author.Tests.{lt-ltb, le-ltb}
 use Rattle.bitio_window.specs.Refusals.{unsound, output_short, too_few_places}
 use Rattle.bunch_held.specs.declared.Accumulator.{Accumulator}
-use Rattle.bunch_held.specs.declared.inner.Checked.{Checked}
 use Rattle.bunch_held.specs.Memory.{HeldMemory, State, sum_of, bytes_all}
 use Rattle.bunch_held.specs.Sound.{memory_sound}
 use Rattle.bunch_held.specs.State.{Stands}
-use Rattle.bunch_held.specs.Calls.{held_by, tested}
+use Rattle.bunch_held.specs.Calls.{held_by}
 use Rattle.bunch_held.proofs.Holding.{places_are, kept}
 use Rattle.bunch.specs.Draining.{unfinished, drain_refuses, lists, drained}
 use Rattle.bunch.specs.Shown.{shown_count, shown_size}
 use Rattle.bunch.proofs.Unfinished.{counts_shown, sizes_shown}
 
 module _ (a : Accumulator) (m : HeldMemory) where
-  -- the test's answer tells which it was
-  module _ {r : Checked} (tests : r ≡ tested a m) where
-    pub passed : {used : ℕ} → r ≡ Checked.Sound used → memory_sound a m ≡ true
-    passed {used} e = go (memory_sound a m) (length (bytes_all (held_by a m))) tests
-      where
-        go : (b : Bool) (n : ℕ) → r ≡ cond b (Checked.Sound n) Checked.Unsound → b ≡ true
-        go true n f = refl
-        go false n f = cc
-
-    pub failed : r ≡ Checked.Unsound → memory_sound a m ≡ false
-    failed e = go (memory_sound a m) (length (bytes_all (held_by a m))) tests
-      where
-        go : (b : Bool) (n : ℕ) → r ≡ cond b (Checked.Sound n) Checked.Unsound → b ≡ false
-        go true n f = cc
-        go false n f = refl
-
   abbrev u : State
   u = unfinished (held_by a m)
 

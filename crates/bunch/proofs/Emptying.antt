@@ -8,7 +8,7 @@ use lib.Dec.{ltb}
 use lib.ListN.{length}
 use borrow.Author.Tests.{lt-ltb}
 use Rattle.bitio_window.specs.Refusals.{Refusal, unfit, unsound, output_short, too_few_places}
-use Rattle.bitio_window.specs.Parse.{value, refusal}
+use Rattle.std.proofs.Common.{Ok, Err}
 use Rattle.tables.specs.Columns.{laid, above, ascending}
 use Rattle.tables.specs.Tables.{channels}
 use Rattle.tables.proofs.Ascending.{above_rest, above_less, ascending_rest}
@@ -25,11 +25,11 @@ use Rattle.bunch.specs.Draining.{unfinished, DrainReply, drain_refuses, lists, d
 -- ## Opening
 
 -- "The accumulator's opening gives 9 for nothing else": an opened accumulator fits its memory, which is sound and holds nothing
-pub opened_sound : (active buffered : ℕ) (m : HeldMemory) {a : Accumulator} → opened_accumulator active buffered m ≡ value a → (memory_sound a m ≡ true) × (held_by a m ≡ [])
+pub opened_sound : (active buffered : ℕ) (m : HeldMemory) {a : Accumulator} → opened_accumulator active buffered m ≡ Ok a → (memory_sound a m ≡ true) × (held_by a m ≡ [])
 unfolding opened_accumulator
 opened_sound active buffered m {a} e = go (fit active buffered m) refl e
   where
-    go : (b : Bool) → fit active buffered m ≡ b → cond b (value (holding_nothing active buffered)) (refusal unfit) ≡ value a → (memory_sound a m ≡ true) × (held_by a m ≡ [])
+    go : (b : Bool) → fit active buffered m ≡ b → cond b (Ok (holding_nothing active buffered)) (Err unfit) ≡ Ok a → (memory_sound a m ≡ true) × (held_by a m ≡ [])
     go true f q =
         let same : holding_nothing active buffered ≡ a = cc in
         rw (← same) (empty_sound (holding_nothing active buffered) m refl refl f, empty_held (holding_nothing active buffered) m refl refl)
@@ -91,11 +91,11 @@ module _ (a : Accumulator) (m : HeldMemory) (output : List ℕ) (list : List (Li
   lasts = drained_case (λ (r : DrainReply). memory_sound r.accumulator m ≡ memory_sound a m) (λ e. refl) (λ s. emptied_sound s ∙ sym s)
 
   -- an answer that is no refusal leaves nothing held
-  pub holds_nothing : {n : ℕ} → x.answer ≡ value n → held_by x.accumulator m ≡ []
+  pub holds_nothing : {n : ℕ} → x.answer ≡ Ok n → held_by x.accumulator m ≡ []
   unfolding total
-  holds_nothing {n} = drained_case (λ (r : DrainReply). r.answer ≡ value n → held_by r.accumulator m ≡ []) (λ e q. cc) (λ s q. empty_held (counting a []) m refl refl)
+  holds_nothing {n} = drained_case (λ (r : DrainReply). r.answer ≡ Ok n → held_by r.accumulator m ≡ []) (λ e q. cc) (λ s q. empty_held (counting a []) m refl refl)
 
   -- "a refused … drain has written nothing"
-  pub refused_same : {e : Refusal} → x.answer ≡ refusal e → (x.accumulator ≡ a) × (x.output ≡ output) × (x.list ≡ list)
+  pub refused_same : {e : Refusal} → x.answer ≡ Err e → (x.accumulator ≡ a) × (x.output ≡ output) × (x.list ≡ list)
   refused_same {e} =
-      drained_case (λ (r : DrainReply). r.answer ≡ refusal e → (r.accumulator ≡ a) × (r.output ≡ output) × (r.list ≡ list)) (λ f q. (refl, refl, refl)) (λ s q. ((cc), (cc), (cc)))
+      drained_case (λ (r : DrainReply). r.answer ≡ Err e → (r.accumulator ≡ a) × (r.output ≡ output) × (r.list ≡ list)) (λ f q. (refl, refl, refl)) (λ s q. ((cc), (cc), (cc)))

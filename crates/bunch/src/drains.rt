@@ -4,8 +4,7 @@ ghost use Rattle.bunch_held.specs.Memory.{held_memory};
 ghost use Rattle.bunch_held.specs.Calls.{counting};
 ghost use Rattle.bunch.specs.Draining.{of_emptied, drained};
 
-use crate::{Drain, Emptied, Listed, inner};
-use bunch_held::inner::Checked;
+use crate::{Listed, inner};
 use bunch_held::{Accumulator, BunchError, inner as memory};
 use bunch_places::Place;
 
@@ -13,53 +12,38 @@ fn emptied(a: Accumulator) -> Accumulator
     ensures { result ≡ counting a [] }
 {
     Accumulator {
-        max_active: a.max_active,
-        max_buffered_bits: a.max_buffered_bits,
         active: 0,
         total_buffered_bits: 0,
+        ..a
     }
 }
 
-// The Rust's `drain_unfinished`, by ascending channel. The lent memory stays as it is: an accumulator with nothing held looks at
-// none of it.
+// The Rust's `drain_unfinished`, by ascending channel: how many messages are then in the list. The lent memory stays as it is: an
+// accumulator with nothing held looks at none of it.
 pub fn drain_unfinished(
-    a: Accumulator,
+    a: &mut Accumulator,
     channels: &[u32],
     places: &[Place],
     arena: &[u8],
     output: &mut [u8],
     list: &mut [Listed],
-) -> Emptied
+) -> Result<usize, BunchError>
     ensures { let before = held_memory channels.now places.now arena.now in
-        of_emptied result output.new list.new ≡ drained a before output.old list.old }
+        of_emptied result a.new output.new list.new ≡ drained a.old before output.old list.old }
 {
-    let checked = memory::pass(a, channels, places, arena);
-    let Checked::Sound { .. } = checked else {
-        return Emptied {
-            answer: Drain::Refused(BunchError::Unsound),
-            accumulator: a,
-        };
-    };
+    memory::pass(*a, channels, places, arena)?;
     let wanted = inner::count(places, a.active);
     if output.len() < wanted.bytes {
-        return Emptied {
-            answer: Drain::Refused(BunchError::OutputShort {
-                bytes: wanted.bytes as u64,
-            }),
-            accumulator: a,
-        };
+        return Err(BunchError::OutputShort {
+            bytes: wanted.bytes as u64,
+        });
     }
     if list.len() < wanted.messages {
-        return Emptied {
-            answer: Drain::Refused(BunchError::ListFull {
-                places: wanted.messages as u64,
-            }),
-            accumulator: a,
-        };
+        return Err(BunchError::ListFull {
+            places: wanted.messages as u64,
+        });
     }
-    inner::list_all(a, channels, places, arena, output, list);
-    Emptied {
-        answer: Drain::Messages(wanted.messages),
-        accumulator: emptied(a),
-    }
+    inner::list_all(*a, channels, places, arena, output, list);
+    *a = emptied(*a);
+    Ok(wanted.messages)
 }

@@ -24,23 +24,23 @@ fn is_finished(p: Place) -> bool
     p[1] == 1
 }
 
+#[tactic(auto, unfolding(crate::specs::Shown::shown_count))]
 fn shown_count(p: Place) -> usize
     ensures { result ≡ shown_count p }
 {
-    if is_finished(p) {
-        return 0;
-    }
-    1
+    if is_finished(p) { 0 } else { 1 }
 }
 
+#[tactic(auto, unfolding(crate::specs::Shown::shown_size))]
 fn shown_size(p: Place) -> usize
     requires { bits_in_place p < 2 ^ 32 }
     ensures { result ≡ shown_size p }
 {
     if is_finished(p) {
-        return 0;
+        0
+    } else {
+        inner::bytes_of(p[0])
     }
-    inner::bytes_of(p[0])
 }
 
 // What the first places show in all.
@@ -51,12 +51,9 @@ pub fn count(places: &[Place], live: usize) -> Wanted
 {
     let mut messages: usize = 0;
     let mut bytes: usize = 0;
-    let mut i: usize = 0;
-    while i < live {
-        let p = places[i];
-        messages += shown_count(p);
-        bytes += shown_size(p);
-        i += 1;
+    for p in &places[..live] {
+        messages += shown_count(*p);
+        bytes += shown_size(*p);
     }
     Wanted { messages, bytes }
 }
@@ -64,30 +61,11 @@ pub fn count(places: &[Place], live: usize) -> Wanted
 fn listed(channel: u32, p: Place) -> Listed
     ensures { result ≡ channel ∷ bits_in_place p ∷ drop 4 p }
 {
-    [
-        channel as u64,
-        p[0],
-        p[4],
-        p[5],
-        p[6],
-        p[7],
-        p[8],
-        p[9],
-        p[10],
-        p[11],
-        p[12],
-        p[13],
-        p[14],
-        p[15],
-        p[16],
-        p[17],
-        p[18],
-        p[19],
-        p[20],
-        p[21],
-        p[22],
-        p[23],
-    ]
+    let mut w: Listed = [0; 22];
+    w[0] = channel as u64;
+    w[1] = p[0];
+    w[2..].copy_from_slice(&p[4..]);
+    w
 }
 
 // One message, whose bytes start at `start`, to place `at` of the output and place `n` of the list.
@@ -137,13 +115,12 @@ pub fn list_all(
     let mut start: usize = 0;
     let mut at: usize = 0;
     let mut n: usize = 0;
-    let mut i: usize = 0;
-    while i < live {
+    // By number: over `enumerate` each goal would be of a part of the columns, and no proof was found.
+    for i in 0..live {
         let p = places[i];
         list_one(channels[i], p, arena, start, output, at, list, n);
         start += inner::bytes_of(p[0]);
         at += shown_size(p);
         n += shown_count(p);
-        i += 1;
     }
 }

@@ -6,7 +6,7 @@ use mathlib.Core.List.{List, [], ◌∷◌, map}
 use native.Mathlib.Omega.{arith}
 use lib.ListN.{length, get_or, set, take}
 use lib.Seq.{length-take-le}
-use Rattle.tables.specs.declared.Slot.{Slot}
+use Rattle.std.specs.Prelude.{Ok, Err}
 use Rattle.tables.specs.Columns.{laid, inserted_at, removed_at}
 use Rattle.tables.specs.Tables.{none, found, get, put, without, values, slot_of}
 use Rattle.tables.proofs.Columns.{laid_take, laid_set, inserted_map, removed_map}
@@ -57,7 +57,7 @@ module _ (a : Accumulator) (m : HeldMemory) (s : Stands a m) (c i : ℕ) where
   laid_is h e f g = rw (h.first, h.second, e, f, g)
 
   -- ## The channel stands at place i
-  module _ (slot : slot_of c cs ≡ Slot.At i) where
+  module _ (slot : slot_of c cs ≡ Ok i) where
     abbrev p : List ℕ
     p = get_or m.places i []
 
@@ -111,7 +111,7 @@ module _ (a : Accumulator) (m : HeldMemory) (s : Stands a m) (c i : ℕ) where
     bytes_changed h = omega (arith, bytes_put c (held_by a m) h, bytes_removed)
 
   -- ## The channel holds nothing, and would stand at place i
-  module _ (slot : slot_of c cs ≡ Slot.Free i) where
+  module _ (slot : slot_of c cs ≡ Err i) where
     pub place_free : i ≤ a.active
     place_free = free_live c i a.active m.channels (omega (arith, s)) slot
 

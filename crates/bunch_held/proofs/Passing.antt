@@ -7,7 +7,7 @@ use native.Mathlib.Nat.{zero-div}
 use native.Mathlib.Omega.{arith}
 use lib.Dec.{eqb, leb}
 use lib.ListN.{length, get_or, take, drop, length-take, get_or-eq_default}
-use lib.Seq.{slice, slice-cons, slice_empty, drop-drop, get_or-take, get_or-drop}
+use lib.Seq.{drop-cons, drop-length, drop-drop, get_or-take, get_or-drop}
 use borrow.Author.Tests.{leb-true, leb-false, le-leb, lt-leb}
 use Rattle.bunch_places.specs.Bytes.{bytes_of}
 use Rattle.bunch_held.specs.Memory.{bits_in_place, size_of}
@@ -36,16 +36,16 @@ module _ (arena : List ℕ) (start bits : ℕ) where
       let l : bits / 8 < bytes_of bits = omega (arith, n) in
       rw (get_or-take (bytes_of bits) (drop start arena) (bits / 8) 0 l, get_or-drop start arena (bits / 8) 0) refl
 
-module _ (ps : List (List ℕ)) (arena : List ℕ) (live i start left : ℕ) (h : i < live) (fits : live ≤ length ps) where
+module _ (ps : List (List ℕ)) (arena : List ℕ) (i start left : ℕ) (h : i < length ps) where
   abbrev p : List ℕ
   p = get_or ps i []
 
   abbrev from_here : Bool
-  from_here = places_sound (slice i live ps) (drop start arena) left
+  from_here = places_sound (drop i ps) (drop start arena) left
 
-  begins : from_here ≡ (leb (bits_in_place p) left && place_sound p (take (size_of p) (drop start arena)) && places_sound (slice (suc i) live ps) (drop (size_of p) (drop start arena)) (left - bits_in_place p))
+  begins : from_here ≡ (leb (bits_in_place p) left && place_sound p (take (size_of p) (drop start arena)) && places_sound (drop (suc i) ps) (drop (size_of p) (drop start arena)) (left - bits_in_place p))
   unfolding places_sound
-  begins = rw (slice-cons i live ps [] h fits) refl
+  begins = rw (drop-cons ps i [] h) refl
 
   pub too_many : left < bits_in_place p → from_here ≡ false
   too_many f = begins ∙ rw (lt-leb (bits_in_place p) left f) refl
@@ -55,9 +55,9 @@ module _ (ps : List (List ℕ)) (arena : List ℕ) (live i start left : ℕ) (h 
     one_unsound e = begins ∙ rw (le-leb (bits_in_place p) left few, e) refl
 
     pub one_sound : (j next : ℕ) → j ≡ suc i → next ≡ start + size_of p → place_sound p (take (size_of p) (drop start arena)) ≡ true
-        → from_here ≡ places_sound (slice j live ps) (drop next arena) (left - bits_in_place p)
+        → from_here ≡ places_sound (drop j ps) (drop next arena) (left - bits_in_place p)
     one_sound j next e n s = begins ∙ rw (le-leb (bits_in_place p) left few, s, drop-drop (size_of p) start arena, e, n) refl
 
-pub passed : (ps : List (List ℕ)) (arena : List ℕ) (live i left : ℕ) → i ≡ live → places_sound (slice i live ps) arena left ≡ eqb left 0
+pub passed : (ps : List (List ℕ)) (arena : List ℕ) (i left : ℕ) → i ≡ length ps → places_sound (drop i ps) arena left ≡ eqb left 0
 unfolding places_sound
-passed ps arena live i left e = rw (e, slice_empty live ps) refl
+passed ps arena i left e = rw (e, drop-length ps) refl

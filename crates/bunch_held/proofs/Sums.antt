@@ -22,24 +22,30 @@ module _ (f : List ℕ → ℕ) where
   sum_front [] (suc i) (suc j) h = zero-le
   sum_front (p ∷ ps) (suc i) (suc j) h = omega (arith, sum_front ps i j (le_of_suc-le-suc h))
 
+  sum_part : (ps : List (List ℕ)) (i : ℕ) → sum_of f (take i ps) ≤ sum_of f ps
+  unfolding sum_of
+  sum_part ps zero = zero-le
+  sum_part [] (suc i) = zero-le
+  sum_part (p ∷ ps) (suc i) = omega (arith, sum_part ps i)
+
 pub sizes_few : (ps : List (List ℕ)) → 8 * size_all ps ≤ bits_all ps + 7 * length ps
 unfolding sum_of
 sizes_few [] = omega arith
 sizes_few (p ∷ ps) = omega (arith, sizes_few ps)
 
--- a turn over the first i places, at place k
-pub record Turn (ps : List (List ℕ)) (i k : ℕ) : Type 0 where
+-- a turn over the places, at place k
+pub record Turn (ps : List (List ℕ)) (k : ℕ) : Type 0 where
   pub more : size_all (take (k + 1) ps) ≡ size_all (take k ps) + size_of (get_or ps k [])
-  pub few : bits_in_place (get_or ps k []) ≤ bits_all (take i ps)
-  pub fits : 8 * size_all (take (k + 1) ps) ≤ bits_all (take i ps) + 7 * i
+  pub few : bits_in_place (get_or ps k []) ≤ bits_all ps
+  pub fits : 8 * size_all (take (k + 1) ps) ≤ bits_all ps + 7 * length ps
 
-pub turn : (ps : List (List ℕ)) (i k : ℕ) → k < i → i ≤ length ps → Turn ps i k
-turn ps i k h f =
+pub turn : (ps : List (List ℕ)) (k : ℕ) → k < length ps → Turn ps k
+turn ps k h =
     let e : k + 1 ≡ suc k = omega arith in
-    let b = sum_more bits_in_place ps k (omega arith) in
-    let m = sum_front bits_in_place ps (suc k) i (omega arith) in
+    let b = sum_more bits_in_place ps k h in
+    let m = sum_part bits_in_place ps (suc k) in
     record {
-      more = rw e (sum_more size_of ps k (omega arith));
+      more = rw e (sum_more size_of ps k h);
       few = omega (arith, b, m);
       fits = rw e (omega (arith, sizes_few (take (suc k) ps), m, length-take-le (suc k) ps (omega arith)));
     }

@@ -1,8 +1,8 @@
 -- A call on the lent memory, in one form for all: unsound memory is refused; else the channel's step, laid in the memory.
-use Rattle.std.specs.Prelude.{ℕ, cond, List, length}
+use Rattle.std.specs.Prelude.{ℕ, cond, List, length, Result, Ok, Err}
 use Rattle.bitio_window.specs.Refusals.{unsound}
 use Rattle.bunch_held.specs.declared.Accumulator.{Accumulator}
-use Rattle.bunch_held.specs.declared.inner.Checked.{Checked}
+use Rattle.bunch_held.specs.declared.BunchError.{BunchError}
 use Rattle.bunch_held.specs.Memory.{HeldMemory, State, state_of, bytes_all, laid_in, total, accumulator_of}
 use Rattle.bunch_held.specs.Sound.{memory_sound}
 use Rattle.bunch_held.specs.Steps.{Act, BunchAnswer, refused, Limits, local, state_after}
@@ -15,8 +15,8 @@ abbrev pub held_by : Accumulator → HeldMemory → State
 held_by a m = state_of a.active m
 
 -- the test's answer, with how many bytes of the arena are used
-abbrev pub tested : Accumulator → HeldMemory → Checked
-tested a m = cond (memory_sound a m) (Checked.Sound (length (bytes_all (held_by a m)))) Checked.Unsound
+abbrev pub tested : Accumulator → HeldMemory → Result ℕ BunchError
+tested a m = cond (memory_sound a m) (Ok (length (bytes_all (held_by a m)))) (Err BunchError.Unsound)
 
 -- the accumulator with a state's counts
 abbrev pub counting : Accumulator → State → Accumulator

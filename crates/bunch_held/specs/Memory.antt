@@ -1,6 +1,6 @@
 -- The accumulator's state in lent memory: a column of channels, ascending, beside it a place for each with its message's words, and
 -- the messages' bytes in the same order, one after the other from the arena's first byte on.
-use Rattle.std.specs.Prelude.{ℕ, ◌+◌, List, [], ◌∷◌, map, eqb, take, drop, get_or}
+use Rattle.std.specs.Prelude.{◌≡◌, ℕ, ◌+◌, List, [], ◌∷◌, map, eqb, take, drop, get_or}
 use mir.Val.{bool_byte}
 use Rattle.tables.specs.Columns.{laid}
 use Rattle.tables.specs.Tables.{Table, channels, values, entries}
@@ -8,6 +8,7 @@ use Rattle.bunch_places.specs.Bytes.{bytes_of}
 use Rattle.bunch_places.specs.Packed.{joined}
 use Rattle.bunch_judging.specs.Held.{message_of, Held}
 use Rattle.bunch_held.specs.declared.Accumulator.{Accumulator}
+use Rattle.bunch_held.specs.declared.LentMemory.{LentMemory}
 
 -- an accumulator of its limits, how many messages it holds, and how many bits
 abbrev pub accumulator_of : ℕ → ℕ → ℕ → ℕ → Accumulator
@@ -21,6 +22,15 @@ pub record HeldMemory : Type 0 where
 
 abbrev pub held_memory : List ℕ → List (List ℕ) → List ℕ → HeldMemory
 held_memory c p a = record { channels = c; places = p; arena = a }
+
+abbrev pub memory_of : LentMemory → HeldMemory
+memory_of m = held_memory m.channels.now m.places.now m.arena.now
+
+-- the same slices are lent, whatever they hold
+pub record SameMemory (m n : LentMemory) : Type 0 where
+  pub channels : n.channels.ghost_name ≡ m.channels.ghost_name
+  pub places : n.places.ghost_name ≡ m.places.ghost_name
+  pub arena : n.arena.ghost_name ≡ m.arena.ghost_name
 
 abbrev pub State : Type 0
 State = Table Held

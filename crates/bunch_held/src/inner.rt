@@ -2,21 +2,14 @@
 ghost use Rattle.std.specs.Prelude.{◌≡◌, cond, ◌+◌, ◌*◌, ◌≤◌, ◌<◌, ◌^◌, length, take};
 ghost use Rattle.types.specs.Types.{most_active_partials, most_buffered_bits};
 ghost use Rattle.bunch_places.specs.Bytes.{part, bytes_of};
-ghost use Rattle.bunch_held.specs.Memory.{held_memory, bits_in_place, size_of, bits_all, size_all};
+ghost use Rattle.bunch_held.specs.Memory.{held_memory, memory_of, bits_in_place, size_of, bits_all, size_all};
 ghost use Rattle.bunch_held.specs.Sound.{fitting, spare_zero, words_sound, place_sound, places_sound};
 ghost use Rattle.bunch_held.specs.Calls.{tested};
 
-use crate::Accumulator;
+use crate::{Accumulator, BunchError, LentMemory};
 use bunch_places::Place;
 use tables::inner;
 use types::{MAX_ACTIVE_PARTIAL_BUNCHES, MAX_BUFFERED_PARTIAL_BITS};
-
-// With how many bytes of the arena are used.
-#[derive(Clone, Copy)]
-pub enum Checked {
-    Sound { used: usize },
-    Unsound,
-}
 
 // The rules of opening, without a sum or a product that could wrap.
 pub fn fitting(active: usize, buffered: u64, channels: usize, places: usize, arena: usize) -> bool
@@ -54,6 +47,7 @@ fn spare_zero(arena: &[u8], start: usize, bits: u64) -> bool
     (arena[last] >> rest) == 0
 }
 
+#[tactic(auto, unfolding(crate::specs::Sound::place_sound))]
 fn place_sound(p: Place, arena: &[u8], start: usize) -> bool
     requires { (bits_in_place p < 2 ^ 32) × (start + size_of p ≤ length arena.now) }
     ensures { result ≡ place_sound p (part start (size_of p) arena.now) }
@@ -62,38 +56,36 @@ fn place_sound(p: Place, arena: &[u8], start: usize) -> bool
 }
 
 // The messages stand one after the other, so that none passes the arena's end while the room for what is left of the bits is there.
-fn places_sound(places: &[Place], live: usize, arena: &[u8], total: u64) -> Checked
-    requires { (live ≤ length places.now)
-        × (live ≤ most_active_partials)
+// Answers how many bytes of the arena they take.
+fn places_sound(places: &[Place], arena: &[u8], total: u64) -> Option<usize>
+    requires { (length places.now ≤ most_active_partials)
         × (total ≤ most_buffered_bits)
-        × (total + 7 * live ≤ 8 * length arena.now) }
-    ensures { let first = take live places.now in
-        result ≡ cond (places_sound first arena.now total) (Checked.Sound (size_all first)) Checked.Unsound }
+        × (total + 7 * length places.now ≤ 8 * length arena.now) }
+    ensures { result ≡ cond (places_sound places.now arena.now total) (Some (size_all places.now)) None }
 {
     let mut left = total;
     let mut start: usize = 0;
-    let mut i: usize = 0;
-    while i < live {
-        let p = places[i];
+    for p in places {
         let bits = p[0];
         if left < bits {
-            return Checked::Unsound;
+            return None;
         }
-        if !place_sound(p, arena, start) {
-            return Checked::Unsound;
+        if !place_sound(*p, arena, start) {
+            return None;
         }
         left -= bits;
         start += bytes_of(bits);
-        i += 1;
     }
-    if left == 0 {
-        return Checked::Sound { used: start };
-    }
-    Checked::Unsound
+    if left == 0 { Some(start) } else { None }
 }
 
-// One pass over the live channels and places.
-pub fn pass(a: Accumulator, channels: &[u32], places: &[Place], arena: &[u8]) -> Checked
+// One pass over the live channels and places, which answers how many bytes of the arena are used.
+pub fn pass(
+    a: Accumulator,
+    channels: &[u32],
+    places: &[Place],
+    arena: &[u8],
+) -> Result<usize, BunchError>
     ensures { result ≡ tested a (held_memory channels.now places.now arena.now) }
 {
     let active = a.active;
@@ -107,10 +99,21 @@ pub fn pass(a: Accumulator, channels: &[u32], places: &[Place], arena: &[u8]) ->
     if fits & (active <= a.max_active) & (a.total_buffered_bits <= a.max_buffered_bits) {
         let ordered = inner::ascending(channels, active);
         if ordered {
-            return places_sound(places, active, arena, a.total_buffered_bits);
+            return places_sound(&places[..active], arena, a.total_buffered_bits).ok_or(
+                BunchError::Unsound,
+            );
         }
     }
-    Checked::Unsound
+    Err(BunchError::Unsound)
+}
+
+impl LentMemory<'_> {
+    // The same of the memory that is lent.
+    pub fn test(&self, a: Accumulator) -> Result<usize, BunchError>
+        ensures { result ≡ tested a (memory_of self.now) }
+    {
+        pass(a, self.channels, self.places, self.arena)
+    }
 }
 
 // Where the message of place i starts in the arena.
@@ -119,11 +122,8 @@ pub fn start_of(places: &[Place], i: usize) -> usize
     ensures { result ≡ size_all (take i places.now) }
 {
     let mut start: usize = 0;
-    let mut k: usize = 0;
-    while k < i {
-        let p = places[k];
+    for p in &places[..i] {
         start += bytes_of(p[0]);
-        k += 1;
     }
     start
 }

@@ -8,7 +8,8 @@ use lib.Dec.{eqb}
 use lib.ListN.{length, take}
 use borrow.Author.Tests.{lt-ltb, le-ltb}
 use Rattle.bitio_window.specs.Refusals.{payload_too_long, payload_short, output_short}
-use Rattle.tables.specs.declared.Slot.{Slot}
+use Rattle.tables.specs.Tables.{Slot}
+use Rattle.std.specs.Prelude.{Ok, Err}
 use Rattle.tables.specs.Tables.{Found, none, found, get, put, slot_of}
 use Rattle.bunch_places.specs.Bytes.{pasted, part, bytes_of, payload_bytes}
 use Rattle.bunch_judging.specs.declared.Displacement.{Displacement}
@@ -33,22 +34,19 @@ use Rattle.bunch_held.specs.Steps.{BunchAnswer, judged, told_all, call_refuses, 
 use Rattle.bunch_held.specs.Calls.{held_by, limits_of}
 use Rattle.bunch_held.proofs.Holding.{kept}
 use Rattle.bunch_held.proofs.Keeping.{without_kept}
-use Rattle.bunch_settling.specs.declared.inner.messages.Settled.{Settled}
-use Rattle.bunch_settling.specs.Settling.{Using, Lays}
+use Rattle.bunch_settling.specs.Settling.{Counts, Using, Lays}
 use Rattle.bunch_settling.specs.Giving.{Gives}
 use Rattle.bunch_held.proofs.Edits.{get_there, get_none}
 use Rattle.bunch_settling.proofs.Giving.{at_same, free_same, unchanged, changes}
 use Rattle.bunch_settling.specs.Fragments.{stayed_by}
-use Rattle.bunch_joining.specs.declared.Judged.{Judged}
-use Rattle.bunch_joining.specs.declared.inner.adding.Outcome.{Outcome}
-use Rattle.bunch_joining.specs.Added.{told_by, of_judged, refused_outcome}
+use Rattle.bunch_joining.specs.Added.{told_by, of_judged}
 
 -- displaced messages by value say the same
 pub told_all_is : (ds : List Displaced) → map told_by (map value_of ds) ≡ told_all ds
 told_all_is [] = refl
 told_all_is (d ∷ ds) = rw (told_all_is ds) refl
 
-pub tells : {r x : PartialBunchResult} (d : Displacement) (ds : List Displaced) → r ≡ x → of_displacement d ≡ displaced_values ds → of_judged (Judged.Result r d) ≡ judged x (told_all ds)
+pub tells : {r x : PartialBunchResult} (d : Displacement) (ds : List Displaced) → r ≡ x → of_displacement d ≡ displaced_values ds → of_judged (Ok (record { result = r; displaced = d })) ≡ judged x (told_all ds)
 tells d ds e f = rw (e, f) (rw (told_all_is ds) refl)
 
 -- what shows no byte displaces nothing
@@ -92,12 +90,12 @@ module _ (a : Accumulator) (m : HeldMemory) (used : ℕ) (u : Using a m used) (c
   too_short h k = rw (le-ltb 16383 f.bits h, lt-ltb (8 * length f.payload) f.bits (omega arith)) refl
 
   module _ (same : holding c (get c s) s ≡ s) where
-    pub gives_long : {r : Outcome} → 16383 < f.bits → r ≡ refused_outcome (BunchError.PayloadTooLong f.bits) a used → Gives a m c (local (limits_of a) s c (adding f) output) (of_judged r.answer) r.left m output
-    gives_long h is = rw (is, too_long h) (unchanged a m used u c (call_refuses (payload_too_long f.bits) (get c s) output) refl refl same)
+    pub gives_long : 16383 < f.bits → Gives a m c (local (limits_of a) s c (adding f) output) (of_judged (Err (BunchError.PayloadTooLong f.bits))) (record { accumulator = a; used = used }) m output
+    gives_long h = rw (too_long h) (unchanged a m used u c (call_refuses (payload_too_long f.bits) (get c s) output) refl refl same)
 
-    pub gives_few : {r : Outcome} → f.bits ≤ 16383 → length f.payload < bytes_of f.bits → r ≡ refused_outcome (BunchError.PayloadShort f.bits) a used
-        → Gives a m c (local (limits_of a) s c (adding f) output) (of_judged r.answer) r.left m output
-    gives_few h k is = rw (is, too_short h k) (unchanged a m used u c (call_refuses (payload_short f.bits) (get c s) output) refl refl same)
+    pub gives_few : f.bits ≤ 16383 → length f.payload < bytes_of f.bits
+        → Gives a m c (local (limits_of a) s c (adding f) output) (of_judged (Err (BunchError.PayloadShort f.bits))) (record { accumulator = a; used = used }) m output
+    gives_few h k = rw (too_short h k) (unchanged a m used u c (call_refuses (payload_short f.bits) (get c s) output) refl refl same)
 
   module _ (small : f.bits ≤ 16383) (enough : bytes_of f.bits ≤ length f.payload) (k : Found Held) (there : get c s ≡ k) (room much : Bool) (only : room ≡ true → k ≡ none)
       (room-is : room ≡ full (limits_of a) s c) (much_is : much ≡ over (limits_of a) s c (adding f)) (x : Fate) (x_is : x ≡ fate room much k f.header f.bits) (e : Effect) (e-is : e ≡ effect_on x f) where
@@ -110,11 +108,11 @@ module _ (a : Accumulator) (m : HeldMemory) (used : ℕ) (u : Using a m used) (c
         rw (e-is, x_is)
         (rw (there, ← room-is, ← much_is, le-ltb 16383 f.bits small, le-ltb (8 * length f.payload) f.bits (omega (arith, enough)), bytes_shown (fate room much k f.header f.bits) k f, met_left room much k f only) refl)
 
-    pub gives_short : (n : ℕ) {r : Outcome} → n ≡ length (shown e k f) → length output < n → holding c k s ≡ s → r ≡ refused_outcome (BunchError.OutputShort n) a used
-        → Gives a m c (local (limits_of a) s c (adding f) output) (of_judged r.answer) r.left m output
-    gives_short n n_is h same is = rw (is, local_is, ← n_is, lt-ltb (length output) n h) (unchanged a m used u c (call_refuses (output_short n) k output) refl refl same)
+    pub gives_short : (n : ℕ) → n ≡ length (shown e k f) → length output < n → holding c k s ≡ s
+        → Gives a m c (local (limits_of a) s c (adding f) output) (of_judged (Err (BunchError.OutputShort n))) (record { accumulator = a; used = used }) m output
+    gives_short n n_is h same = rw (local_is, ← n_is, lt-ltb (length output) n h) (unchanged a m used u c (call_refuses (output_short n) k output) refl refl same)
 
-    pub gives_judged : (bytes : List ℕ) {out : List ℕ} {r : Settled} {after : HeldMemory} {told : BunchAnswer} → bytes ≡ shown e k f → length bytes ≤ length output → out ≡ pasted 0 bytes output → told ≡ answer
+    pub gives_judged : (bytes : List ℕ) {out : List ℕ} {r : Counts} {after : HeldMemory} {told : BunchAnswer} → bytes ≡ shown e k f → length bytes ≤ length output → out ≡ pasted 0 bytes output → told ≡ answer
         → (e.stays ≡ true → Kept a (put c (stayed_by e k (after_test k f.header) f.bits f.payload) s)) → Lays a m (holding c (left_after e k f) s) r after
         → Gives a m c (local (limits_of a) s c (adding f) output) told r after out
     gives_judged bytes bytes_are fits out-is told_is stays lays =
@@ -130,5 +128,5 @@ pub always_same : (a : Accumulator) (m : HeldMemory) (used : ℕ) → Using a m 
 always_same a m used u c = go (slot_of c (take a.active m.channels)) refl
   where
     go : (x : Slot) → slot_of c (take a.active m.channels) ≡ x → holding c (get c (held_by a m)) (held_by a m) ≡ held_by a m
-    go (Slot.At i) e = rw (get_there a m u.stands c i e) (at_same a m used u c i e)
-    go (Slot.Free i) e = rw (get_none a m u.stands c i e) (free_same a m used u c i e)
+    go (Ok i) e = rw (get_there a m u.stands c i e) (at_same a m used u c i e)
+    go (Err i) e = rw (get_none a m u.stands c i e) (free_same a m used u c i e)

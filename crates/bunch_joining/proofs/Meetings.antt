@@ -7,7 +7,8 @@ use native.Mathlib.Omega.{arith}
 use lib.Dec.{eqb}
 use lib.ListN.{take}
 use Rattle.types.specs.declared.RawBunchHeader.{RawBunchHeader}
-use Rattle.tables.specs.declared.Slot.{Slot}
+use Rattle.tables.specs.Tables.{Slot}
+use Rattle.std.specs.Prelude.{Ok, Err}
 use Rattle.tables.specs.Tables.{slot_of}
 use Rattle.bunch_places.specs.Bytes.{bytes_of}
 use Rattle.bunch_judging.specs.declared.PartialBunchResult.{PartialBunchResult}
@@ -25,12 +26,12 @@ use Rattle.bunch_joining.specs.Meetings.{Meetable, Meets, Weighs}
 use Rattle.bunch_joining.proofs.There as There
 
 pub meetable : (a : Accumulator) (m : HeldMemory) (used : ℕ) → Using a m used → (c : ℕ) (s : Slot) → slot_of c (take a.active m.channels) ≡ s → (bits : ℕ) → bits ≤ 16383 → Meetable a m.places s bits
-meetable a m used u c (Slot.At i) e bits small = There.meetable a m used u c i e bits small
-meetable a m used u c (Slot.Free i) e bits small = (omega (arith, u.stands), small)
+meetable a m used u c (Ok i) e bits small = There.meetable a m used u c i e bits small
+meetable a m used u c (Err i) e bits small = (omega (arith, u.stands), small)
 
 pub meets_few : (a : Accumulator) (ps : List (List ℕ)) (s : Slot) (initial : Bool) (bits : ℕ) (r : Meeting) → Meetable a ps s bits → Meets a ps s initial bits r → (r.held < 2 ^ 32) × (S.standing_bits r.standing ≤ 536870912)
-meets_few a ps (Slot.At i) initial bits r q m = (omega (arith, m.held_is, q.1.1, q.1.2), omega (arith, m.bits_are, q.1.1, q.1.2))
-meets_few a ps (Slot.Free i) initial bits r q m = (omega (arith, m.held_is), rw m.standing_is (omega arith))
+meets_few a ps (Ok i) initial bits r q m = (omega (arith, m.held_is, q.1.1, q.1.2), omega (arith, m.bits_are, q.1.1, q.1.2))
+meets_few a ps (Err i) initial bits r q m = (omega (arith, m.held_is), rw m.standing_is (omega arith))
 
 -- the same at a slot that is known
 pub met_at : (a : Accumulator) (ps : List (List ℕ)) (initial : Bool) (bits : ℕ) (r : Meeting) {s t : Slot} → s ≡ t → Meets a ps s initial bits r → Meets a ps t initial bits r

@@ -7,7 +7,7 @@ use native.Mathlib.Omega.{arith}
 use lib.Dec.{ltb}
 use lib.ListN.{length, get_or, take, drop, length-append}
 use Rattle.types.specs.declared.RawBunchHeader.{RawBunchHeader}
-use Rattle.tables.specs.declared.Slot.{Slot}
+use Rattle.std.specs.Prelude.{Option, Ok, Err}
 use Rattle.tables.specs.Tables.{found, slot_of}
 use Rattle.bunch_places.specs.Bytes.{pasted, part, bytes_of, payload_bytes}
 use Rattle.bunch_places.proofs.Pastes.{length_part}
@@ -30,17 +30,15 @@ use Rattle.bunch_held.specs.Calls.{held_by, limits_of}
 use Rattle.bunch_held.proofs.Holding.{message_at, kept}
 use Rattle.bunch_held.proofs.Keeping.{good_held}
 use Rattle.bunch_held.proofs.Edits.{get_there}
-use Rattle.bunch_settling.specs.declared.inner.messages.Settled.{Settled}
-use Rattle.bunch_settling.specs.Settling.{Using, Lays}
+use Rattle.bunch_settling.specs.Settling.{Counts, Using, Lays}
 use Rattle.bunch_settling.specs.Giving.{Gives}
 use Rattle.bunch_settling.proofs.Numbers.{spot}
 use Rattle.bunch_settling.proofs.Giving.{at_same}
 use Rattle.bunch_settling.specs.declared.inner.fragments.Weighed.{Weighed}
 use Rattle.bunch_settling.specs.Fragments.{held_in_place, left_by, Holds}
 use Rattle.bunch_settling.proofs.Judging.{not_full, over_there, stays_kept}
-use Rattle.bunch_joining.specs.declared.inner.adding.Outcome.{Outcome}
 use Rattle.bunch_joining.specs.declared.inner.adding.Meeting.{Meeting}
-use Rattle.bunch_joining.specs.Added.{of_judged, refused_outcome}
+use Rattle.bunch_joining.specs.Added.{of_judged}
 use Rattle.bunch_joining.specs.Meetings.{Meetable, MeetsHeld, Weighs}
 use Rattle.bunch_joining.proofs.Joining as J
 
@@ -59,7 +57,7 @@ joins_as : (b : Bool) (n : Held) → cond b 0 n.message.bits ≡ Steps.kept b (f
 joins_as true n = refl
 joins_as false n = refl
 
-module _ (a : Accumulator) (m : HeldMemory) (used : ℕ) (u : Using a m used) (c i : ℕ) (slot : slot_of c (take a.active m.channels) ≡ Slot.At i) where
+module _ (a : Accumulator) (m : HeldMemory) (used : ℕ) (u : Using a m used) (c i : ℕ) (slot : slot_of c (take a.active m.channels) ≡ Ok i) where
   abbrev p : List ℕ
   p = get_or m.places i []
 
@@ -73,7 +71,7 @@ module _ (a : Accumulator) (m : HeldMemory) (used : ℕ) (u : Using a m used) (c
   unfolding held_at
   word_fits = (good_held c (held_by a m) (get_there a m u.stands c i slot) (kept a m u.stands).good).sequence_fits
 
-  pub meetable : (bits : ℕ) → bits ≤ 16383 → Meetable a m.places (Slot.At i) bits
+  pub meetable : (bits : ℕ) → bits ≤ 16383 → Meetable a m.places (Ok i) bits
   meetable bits small = let g = spot a m used u c i slot in (omega (arith, g), (word_fits, omega (arith, g), omega (arith, g), small))
 
   module _ (f : Fragment) (small : f.bits ≤ 16383) (enough : bytes_of f.bits ≤ length f.payload) (met : Meeting) (meets : MeetsHeld a p f.header.b_partial_initial f.bits met)
@@ -81,7 +79,7 @@ module _ (a : Accumulator) (m : HeldMemory) (used : ℕ) (u : Using a m used) (c
     abbrev joins : ℕ
     joins = cond f.header.b_partial_initial 0 (bits_in_place p)
 
-    abbrev standing : Standing
+    abbrev standing : Option Standing
     standing = met.standing
 
     abbrev much : Bool
@@ -113,10 +111,10 @@ module _ (a : Accumulator) (m : HeldMemory) (used : ℕ) (u : Using a m used) (c
         length-append (part from w.held m.arena) (payload_bytes w.payload f.payload)
         ∙ omega (arith, length_part from w.held m.arena (omega (arith, g, few_shown.1)), length_payload w.payload f.payload (omega (arith, few_shown.0, enough)))
 
-    pub gives_short : (output : List ℕ) (n : ℕ) {r : Outcome} → n ≡ w.held + bytes_of w.payload → length output < n → r ≡ refused_outcome (BunchError.OutputShort n) a used
-        → Gives a m c (local (limits_of a) (held_by a m) c (adding f) output) (of_judged r.answer) r.left m output
-    gives_short output n e h is =
-        J.gives_short a m used u c f output small enough (found old) (get_there a m u.stands c i slot) false much (λ t. cc) (not_full a m used u c i f slot) much_is w.fate x_is w.effect weighs.effect_is n (e ∙ sym bytes_long ∙ ap length bytes_are) h (at_same a m used u c i slot) is
+    pub gives_short : (output : List ℕ) (n : ℕ) → n ≡ w.held + bytes_of w.payload → length output < n
+        → Gives a m c (local (limits_of a) (held_by a m) c (adding f) output) (of_judged (Err (BunchError.OutputShort n))) (record { accumulator = a; used = used }) m output
+    gives_short output n e h =
+        J.gives_short a m used u c f output small enough (found old) (get_there a m u.stands c i slot) false much (λ t. cc) (not_full a m used u c i f slot) much_is w.fate x_is w.effect weighs.effect_is n (e ∙ sym bytes_long ∙ ap length bytes_are) h (at_same a m used u c i slot)
 
     module _ (h : RawBunchHeader) (h-is : (words bytes : List ℕ) → h ≡ after_test (held_of standing words bytes) f.header) (sequence : ℕ) (sequence_is : (sequence ≡ sequence_word h) × (sequence < 2 ^ 32))
         (start : ℕ) (start_is : start ≡ from) where
@@ -136,7 +134,7 @@ module _ (a : Accumulator) (m : HeldMemory) (used : ℕ) (u : Using a m used) (c
             kept = rw (start_is, met_is) (stays_kept a m used u c i f slot h (rw sequence_is.0 at sequence_is.1) enough much much_is);
           }
 
-      pub gives_judged : (output : List ℕ) {out : List ℕ} {r : Settled} {after : HeldMemory} {told : BunchAnswer} → w.held + bytes_of w.payload ≤ length output
+      pub gives_judged : (output : List ℕ) {out : List ℕ} {r : Counts} {after : HeldMemory} {told : BunchAnswer} → w.held + bytes_of w.payload ≤ length output
           → out ≡ pasted 0 (part start w.held m.arena ++ payload_bytes w.payload f.payload) output
           → ((bytes payload : List ℕ) → told ≡ judged (result_of w.fate (held_of standing (drop 4 p) bytes) (record { header = f.header; bits = f.bits; payload = payload })) (told_all (displaced w.fate (held_of standing (drop 4 p) bytes) (record { header = f.header; bits = f.bits; payload = payload }))))
           → Lays a m (holding c (left_by w.effect (found (held_in_place i start m)) h f.bits f.payload) (held_by a m)) r after

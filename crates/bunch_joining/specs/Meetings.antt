@@ -2,11 +2,11 @@
 use Rattle.std.specs.Prelude.{ℕ, ◌+◌, ◌-◌, ◌^◌, ◌≤◌, ◌<◌, ◌≡◌, Bool, false, cond, List, [], eqb, leb, ltb, length, get_or, drop}
 use Rattle.types.specs.Types.{longest_payload, most_buffered_bits}
 use Rattle.types.specs.declared.RawBunchHeader.{RawBunchHeader}
-use Rattle.tables.specs.declared.Slot.{Slot}
+use Rattle.tables.specs.Tables.{Slot}
+use Rattle.std.specs.Prelude.{None, Ok, Err}
 use Rattle.tables.specs.Tables.{found}
 use Rattle.bunch_places.specs.Bytes.{bytes_of}
 use Rattle.bunch_judging.specs.declared.PartialBunchResult.{PartialBunchResult}
-use Rattle.bunch_judging.specs.declared.Standing.{Standing}
 use Rattle.bunch_judging.specs.Fates.{fate}
 use Rattle.bunch_judging.specs.Results.{result_of}
 use Rattle.bunch_judging.specs.Effects.{effect_of}
@@ -26,8 +26,8 @@ MeetableHeld a p bits =
     × (bits ≤ longest_payload)
 
 abbrev pub Meetable : Accumulator → List (List ℕ) → Slot → ℕ → Type 0
-Meetable a places (Slot.At i) bits = (i < length places) × MeetableHeld a (get_or places i []) bits
-Meetable a places (Slot.Free i) bits = (a.total_buffered_bits ≤ most_buffered_bits) × (bits ≤ longest_payload)
+Meetable a places (Ok i) bits = (i < length places) × MeetableHeld a (get_or places i []) bits
+Meetable a places (Err i) bits = (a.total_buffered_bits ≤ most_buffered_bits) × (bits ≤ longest_payload)
 
 -- the message of place p
 pub record MeetsHeld (a : Accumulator) (p : List ℕ) (initial : Bool) (bits : ℕ) (r : Meeting) : Type 0 where
@@ -38,14 +38,14 @@ pub record MeetsHeld (a : Accumulator) (p : List ℕ) (initial : Bool) (bits : �
   pub over_is : r.over ≡ ltb a.max_buffered_bits (a.total_buffered_bits - bits_in_place p + (cond initial 0 (bits_in_place p) + bits))
 
 pub record MeetsNothing (a : Accumulator) (bits : ℕ) (r : Meeting) : Type 0 where
-  pub standing_is : r.standing ≡ Standing.Nothing
+  pub standing_is : r.standing ≡ None
   pub held_is : r.held ≡ 0
   pub full_is : r.full ≡ leb a.max_active a.active
   pub over_is : r.over ≡ ltb a.max_buffered_bits (a.total_buffered_bits + bits)
 
 abbrev pub Meets : Accumulator → List (List ℕ) → Slot → Bool → ℕ → Meeting → Type 0
-Meets a places (Slot.At i) initial bits r = MeetsHeld a (get_or places i []) initial bits r
-Meets a places (Slot.Free i) initial bits r = MeetsNothing a bits r
+Meets a places (Ok i) initial bits r = MeetsHeld a (get_or places i []) initial bits r
+Meets a places (Err i) initial bits r = MeetsNothing a bits r
 
 -- the fate of what was met, with its effect, how much is shown, and the result
 pub record Weighs (met : Meeting) (header : RawBunchHeader) (bits : ℕ) (w : Weighed) (r : PartialBunchResult) : Type 0 where

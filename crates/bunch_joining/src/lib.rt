@@ -2,43 +2,21 @@
 // call leaves.
 #![tactic(auto)]
 
-use bunch_held::{Accumulator, BunchError};
 use bunch_judging::{Displacement, PartialBunchResult};
 use types::RawBunchHeader;
 
 pub mod inner;
 
-// What comes of a fragment; the displaced messages' bytes are in the output, first displaced first.
+// What comes of a fragment: the Rust's result. The displaced messages' bytes are in the output, first displaced first.
 #[derive(Clone, Copy)]
-pub enum Judged {
-    Result {
-        result: PartialBunchResult,
-        displaced: Displacement,
-    },
-    Refused(BunchError),
+pub struct Judged {
+    pub result: PartialBunchResult,
+    pub displaced: Displacement,
 }
 
-// Beside what is then held: the answer of a call that tests the memory.
+// A message that is taken or retired; its bytes are in the output.
 #[derive(Clone, Copy)]
-pub struct Added {
-    pub answer: Judged,
-    pub accumulator: Accumulator,
-}
-
-// What taking or retiring hands out; the message's bytes are in the output.
-#[derive(Clone, Copy)]
-pub enum Handed {
-    Message {
-        header: RawBunchHeader,
-        bit_count: u64,
-    },
-    Nothing,
-    Refused(BunchError),
-}
-
-// Beside what is then held: the answer of a call that tests the memory.
-#[derive(Clone, Copy)]
-pub struct Taken {
-    pub answer: Handed,
-    pub accumulator: Accumulator,
+pub struct PreservedPartial {
+    pub header: RawBunchHeader,
+    pub bit_count: u64,
 }

@@ -5,6 +5,7 @@ use mathlib.Core.List.{List, [], ◌∷◌, ◌++◌}
 use Prim.Native.Nat.{ℕ, ◌+◌, ◌≤◌}
 use native.Mathlib.Omega.{arith}
 use lib.Dec.{eqb}
+use Rattle.std.specs.Prelude.{Option, Some, None}
 use borrow.Author.Tests.{eqb-true}
 use Rattle.types.specs.declared.RawBunchHeader.{RawBunchHeader}
 use Rattle.tables.specs.Tables.{Found, none, found}
@@ -16,9 +17,9 @@ use Rattle.bunch_judging.specs.Headers.{after_test}
 use Rattle.bunch_judging.specs.Messages.{replaced_by, joined_by, base, displaced_by, displaced, bits_of_all, bits_held}
 use Rattle.bunch_judging.specs.Standings.{held_of, standing_bits, displaced_bits}
 
-pub held_bits : (s : Standing) (words bytes : List ℕ) → bits_held (held_of s words bytes) ≡ standing_bits s
-held_bits Standing.Nothing words bytes = refl
-held_bits (Standing.Message sequence reliable finished bits) words bytes = refl
+pub held_bits : (s : Option Standing) (words bytes : List ℕ) → bits_held (held_of s words bytes) ≡ standing_bits s
+held_bits None words bytes = refl
+held_bits (Some s) words bytes = refl
 
 pub at_most : (x : Fate) (initial : Bool) (held bits : ℕ) → displaced_bits x initial held bits ≤ held + bits
 unfolding displaced_bits

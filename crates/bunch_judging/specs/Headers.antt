@@ -1,5 +1,5 @@
 -- A fragment's header, with the tracking flags that judging it sets.
-use Rattle.std.specs.Prelude.{Bool, true, cond}
+use Rattle.std.specs.Prelude.{Bool, true, cond, Option, Some}
 use Rattle.types.specs.declared.PartialSequenceKind.{PartialSequenceKind}
 use Rattle.types.specs.declared.RawBunchHeader.{RawBunchHeader}
 use Rattle.tables.specs.Tables.{Found}
@@ -7,7 +7,7 @@ use Rattle.bunch_judging.specs.Held.{Held}
 use Rattle.bunch_judging.specs.Fates.{overlaps}
 
 -- a header with other tracking flags
-unfoldable pub flagged : Bool → PartialSequenceKind → Bool → RawBunchHeader → RawBunchHeader
+unfoldable pub flagged : Bool → Option PartialSequenceKind → Bool → RawBunchHeader → RawBunchHeader
 flagged error kind completed h =
     record {
       packet_id = h.packet_id;
@@ -32,9 +32,9 @@ flagged error kind completed h =
       has_channel_limit_error = h.has_channel_limit_error;
     }
 
-abbrev pub erring : PartialSequenceKind → RawBunchHeader → RawBunchHeader
+abbrev pub erring : Option PartialSequenceKind → RawBunchHeader → RawBunchHeader
 erring kind h = flagged true kind h.is_partial_completed h
 
 -- "error flag and overlap kind set where it displaced an unfinished message": the header after the sequence test
 unfoldable pub after_test : Found Held → RawBunchHeader → RawBunchHeader
-after_test m h = cond (overlaps m h.b_partial_initial) (erring PartialSequenceKind.OverlappingInitial h) h
+after_test m h = cond (overlaps m h.b_partial_initial) (erring (Some PartialSequenceKind.OverlappingInitial) h) h

@@ -1,5 +1,5 @@
 -- What a fate comes to for messages: the one that the channel holds afterwards, and those displaced, in order.
-use Rattle.std.specs.Prelude.{ℕ, ◌+◌, Bool, true, false, cond, List, [], ◌∷◌, ◌++◌, eqb}
+use Rattle.std.specs.Prelude.{ℕ, ◌+◌, Bool, true, false, cond, List, [], ◌∷◌, ◌++◌, eqb, unwrap_or}
 use Rattle.types.specs.declared.PartialSequenceKind.{PartialSequenceKind}
 use Rattle.types.specs.declared.RawBunchHeader.{RawBunchHeader}
 use Rattle.tables.specs.Tables.{Found, none, found}
@@ -54,18 +54,11 @@ abbrev pub replaced : Found Held → Fragment → List Displaced
 replaced m f =
     displaced_by (PartialDiscardCause.Sequence PartialSequenceKind.OverlappingInitial) (replaced_by f.header.b_partial_initial m)
 
-abbrev pub or_overlapping : PartialSequenceKind → PartialSequenceKind
-or_overlapping PartialSequenceKind.None = PartialSequenceKind.OverlappingInitial
-or_overlapping PartialSequenceKind.MissingInitial = PartialSequenceKind.MissingInitial
-or_overlapping PartialSequenceKind.OverlappingInitial = PartialSequenceKind.OverlappingInitial
-or_overlapping PartialSequenceKind.MismatchedContinuation = PartialSequenceKind.MismatchedContinuation
-or_overlapping PartialSequenceKind.NonByteAlignedFragment = PartialSequenceKind.NonByteAlignedFragment
-
 -- the message with an erring final
 abbrev pub fallen : Found Held → Fragment → Displaced
 fallen m f =
     displaced_of (joined_to (joining m f).message f)
-    (PartialDiscardCause.Sequence (or_overlapping (after_test m f.header).partial_error_kind))
+    (PartialDiscardCause.Sequence (unwrap_or (after_test m f.header).partial_error_kind PartialSequenceKind.OverlappingInitial))
 
 -- "a valid non-initial final of zero bits … reports none of its bits"; nor is an initial one's empty start displaced
 unfoldable pub displaced : Fate → Found Held → Fragment → List Displaced

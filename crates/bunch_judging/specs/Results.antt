@@ -1,5 +1,5 @@
 -- The answer to a fragment by its fate, but for what is displaced: the Rust's `PartialBunchResult`, and by how much its counts rise.
-use Rattle.std.specs.Prelude.{ℕ, ◌+◌, Bool, true, false, ◌||◌, cond, eqb}
+use Rattle.std.specs.Prelude.{ℕ, ◌+◌, Bool, true, false, ◌||◌, cond, eqb, Option, Some, None}
 use mir.Val.{bool_byte}
 use Rattle.types.specs.declared.PartialSequenceKind.{PartialSequenceKind}
 use Rattle.types.specs.declared.RawBunchHeader.{RawBunchHeader}
@@ -13,23 +13,23 @@ use Rattle.bunch_judging.specs.Fates.{overlaps}
 use Rattle.bunch_judging.specs.Headers.{flagged, erring, after_test}
 use Rattle.bunch_judging.specs.Messages.{displaced, bits_of_all}
 
-abbrev pub is_overlapping : PartialSequenceKind → Bool
-is_overlapping PartialSequenceKind.None = false
-is_overlapping PartialSequenceKind.MissingInitial = false
-is_overlapping PartialSequenceKind.OverlappingInitial = true
-is_overlapping PartialSequenceKind.MismatchedContinuation = false
-is_overlapping PartialSequenceKind.NonByteAlignedFragment = false
+abbrev pub is_overlapping : Option PartialSequenceKind → Bool
+is_overlapping None = false
+is_overlapping (Some PartialSequenceKind.MissingInitial) = false
+is_overlapping (Some PartialSequenceKind.OverlappingInitial) = true
+is_overlapping (Some PartialSequenceKind.MismatchedContinuation) = false
+is_overlapping (Some PartialSequenceKind.NonByteAlignedFragment) = false
 
-abbrev pub cause_kind : PartialDiscardCause → PartialSequenceKind
-cause_kind (PartialDiscardCause.Sequence k) = k
-cause_kind (PartialDiscardCause.Resource l) = PartialSequenceKind.None
+abbrev pub cause_kind : PartialDiscardCause → Option PartialSequenceKind
+cause_kind (PartialDiscardCause.Sequence k) = Some k
+cause_kind (PartialDiscardCause.Resource l) = None
 
-abbrev pub limit_of : PartialDiscardCause → PartialResourceLimit
-limit_of (PartialDiscardCause.Sequence k) = PartialResourceLimit.None
-limit_of (PartialDiscardCause.Resource l) = l
+abbrev pub limit_of : PartialDiscardCause → Option PartialResourceLimit
+limit_of (PartialDiscardCause.Sequence k) = None
+limit_of (PartialDiscardCause.Resource l) = Some l
 
 -- a fragment that does not join
-abbrev pub refused : RawBunchHeader → PartialResourceLimit → PartialSequenceKind → Bool → ℕ → ℕ → PartialBunchResult
+abbrev pub refused : RawBunchHeader → Option PartialResourceLimit → Option PartialSequenceKind → Bool → ℕ → ℕ → PartialBunchResult
 refused h limit kind overlapping discarded errors =
     record {
       header = h;
@@ -44,10 +44,10 @@ refused h limit kind overlapping discarded errors =
     }
 
 abbrev pub turned_away : RawBunchHeader → ℕ → PartialBunchResult
-turned_away h bits = refused (erring h.partial_error_kind h) PartialResourceLimit.ActiveStates PartialSequenceKind.None false bits 1
+turned_away h bits = refused (erring h.partial_error_kind h) (Some PartialResourceLimit.ActiveStates) None false bits 1
 
 abbrev pub broken : PartialSequenceKind → RawBunchHeader → ℕ → PartialBunchResult
-broken k h discarded = refused (erring k h) PartialResourceLimit.None k (is_overlapping k) discarded 1
+broken k h discarded = refused (erring (Some k) h) None (Some k) (is_overlapping (Some k)) discarded 1
 
 -- "Setting the header's kind when alignment refuses: only the result carries it."
 abbrev pub failed : PartialDiscardCause → RawBunchHeader → ℕ → ℕ → PartialBunchResult
@@ -60,9 +60,9 @@ accepted h zero done discarded errors =
     record {
       header = flagged h.has_partial_error h.partial_error_kind (h.is_partial_completed || done) h;
       should_process = done;
-      resource_limit = PartialResourceLimit.None;
+      resource_limit = None;
       discarded_bits = discarded;
-      error_kind = cond zero PartialSequenceKind.None h.partial_error_kind;
+      error_kind = cond zero None h.partial_error_kind;
       overlapping_initial = is_overlapping h.partial_error_kind;
       errors = errors;
       fragments = 1;

@@ -1,5 +1,5 @@
 -- What the code's values say: a standing, with its header's words and its bytes, is what a channel holds.
-use Rattle.std.specs.Prelude.{ℕ, ◌+◌, Bool, not, ◌||◌, cond, List, [], ◌∷◌, map, eqb}
+use Rattle.std.specs.Prelude.{ℕ, ◌+◌, Bool, not, ◌||◌, cond, List, [], ◌∷◌, map, eqb, Option, Some, None}
 use Rattle.tables.specs.Tables.{Found, none, found}
 use Rattle.words.specs.Words.{header_from}
 use Rattle.bunch_judging.specs.declared.Displaced as By-value
@@ -8,14 +8,14 @@ use Rattle.bunch_judging.specs.declared.Fate.{Fate}
 use Rattle.bunch_judging.specs.declared.Standing.{Standing}
 use Rattle.bunch_judging.specs.Held.{message_of, Held, Displaced}
 
-abbrev pub held_of : Standing → List ℕ → List ℕ → Found Held
-held_of Standing.Nothing words bytes = none
-held_of (Standing.Message sequence reliable finished bits) words bytes =
-    found (record { sequence = sequence; reliable = reliable; finished = finished; message = message_of words bits bytes })
+abbrev pub held_of : Option Standing → List ℕ → List ℕ → Found Held
+held_of None words bytes = none
+held_of (Some s) words bytes =
+    found (record { sequence = s.sequence; reliable = s.reliable; finished = s.finished; message = message_of words s.bits bytes })
 
-abbrev pub standing_bits : Standing → ℕ
-standing_bits Standing.Nothing = 0
-standing_bits (Standing.Message sequence reliable finished bits) = bits
+abbrev pub standing_bits : Option Standing → ℕ
+standing_bits None = 0
+standing_bits (Some s) = s.bits
 
 -- the bits of all that a fate displaces, where `held` were held
 unfoldable pub displaced_bits : Fate → Bool → ℕ → ℕ → ℕ

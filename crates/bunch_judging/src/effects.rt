@@ -29,13 +29,13 @@ fn stays(anew: bool, finished: bool) -> Effect
 }
 
 // `zero` where the fragment has no bits.
+#[tactic(auto, unfolding(crate::specs::Effects::effect_of))]
 pub fn effect(fate: Fate, initial: bool, zero: bool) -> Effect
     ensures { result ≡ effect_of fate initial zero }
 {
     match fate {
         Fate::TurnedAway => goes(false, false),
-        Fate::Breaks(_) => goes(true, false),
-        Fate::Fails(_) => goes(true, false),
+        Fate::Breaks(_) | Fate::Fails(_) => goes(true, false),
         Fate::Joins => stays(initial, false),
         Fate::Finishes => stays(initial, true),
         Fate::Falls => goes(initial | !zero, !zero),

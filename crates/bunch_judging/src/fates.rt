@@ -8,32 +8,28 @@ use bitio_bits::inner::signed;
 use types::continuing::continues;
 use types::{PartialSequenceKind, RawBunchHeader};
 
-pub fn overlaps(held: Standing, initial: bool) -> bool
+#[tactic(auto, unfolding(crate::specs::Fates::overlaps))]
+pub fn overlaps(held: Option<Standing>, initial: bool) -> bool
     ensures { (words bytes : List ℕ) → result ≡ overlaps (held_of held words bytes) initial }
 {
     match held {
-        Standing::Nothing => false,
-        Standing::Message {
-            sequence: _,
-            reliable: _,
-            finished,
-            bits: _,
-        } => initial & !finished,
+        None => false,
+        Some(m) => initial & !m.finished,
     }
 }
 
+#[tactic(auto, unfolding(crate::specs::Fates::ending))]
 fn ending(last: bool, error: bool) -> Fate
     ensures { result ≡ ending last error }
 {
-    if last {
-        if error {
-            return Fate::Falls;
-        }
-        return Fate::Finishes;
+    match (last, error) {
+        (true, true) => Fate::Falls,
+        (true, false) => Fate::Finishes,
+        (false, _) => Fate::Joins,
     }
-    Fate::Joins
 }
 
+#[tactic(auto, unfolding(crate::specs::Fates::weighed))]
 fn weighed(unaligned: bool, over: bool, last: bool, error: bool) -> Fate
     ensures { result ≡ weighed unaligned over last error }
 {
@@ -48,6 +44,7 @@ fn weighed(unaligned: bool, over: bool, last: bool, error: bool) -> Fate
     ending(last, error)
 }
 
+#[tactic(auto, unfolding(crate::specs::Fates::admitted))]
 fn admitted(over: bool, last: bool, error: bool, bits: u64) -> Fate
     ensures { result ≡ admitted over last error bits }
 {
@@ -64,30 +61,30 @@ fn follows(sequence: u32, reliable: bool, header: RawBunchHeader) -> bool
     continues(sequence, reliable as u32, header.b_reliable, next)
 }
 
-fn continued(over: bool, held: Standing, header: RawBunchHeader, bits: u64) -> Fate
+#[tactic(auto, unfolding(crate::specs::Fates::continued))]
+fn continued(over: bool, held: Option<Standing>, header: RawBunchHeader, bits: u64) -> Fate
     ensures { (words bytes : List ℕ) → result ≡ continued over (held_of held words bytes) header bits }
 {
     match held {
-        Standing::Nothing => Fate::Breaks(PartialSequenceKind::MissingInitial),
-        Standing::Message {
-            sequence,
-            reliable,
-            finished,
-            bits: _,
-        } => {
-            if finished {
-                return Fate::Breaks(PartialSequenceKind::MissingInitial);
-            }
-            if !follows(sequence, reliable, header) {
+        Some(m) if !m.finished => {
+            if !follows(m.sequence, m.reliable, header) {
                 return Fate::Breaks(PartialSequenceKind::MismatchedContinuation);
             }
             admitted(over, header.b_partial_final, header.has_partial_error, bits)
         }
+        _ => Fate::Breaks(PartialSequenceKind::MissingInitial),
     }
 }
 
 // `full` where the channel holds nothing and every place is taken, `over` where the payload passes the buffered limit.
-pub fn fate(full: bool, over: bool, held: Standing, header: RawBunchHeader, bits: u64) -> Fate
+#[tactic(auto, unfolding(crate::specs::Fates::fate))]
+pub fn fate(
+    full: bool,
+    over: bool,
+    held: Option<Standing>,
+    header: RawBunchHeader,
+    bits: u64,
+) -> Fate
     ensures { (words bytes : List ℕ) → result ≡ fate full over (held_of held words bytes) header bits }
 {
     if header.b_partial_initial {

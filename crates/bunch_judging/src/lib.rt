@@ -9,30 +9,26 @@ pub mod headers;
 pub mod inner;
 
 // Which limit refused a fragment. Freed room serves later fragments, so the Rust's `Allocation` never occurs.
-#[derive(Clone, Copy)]
+#[derive(Clone, Copy, Debug, PartialEq, Eq)]
 pub enum PartialResourceLimit {
-    None,
     ActiveStates,
     BufferedBits,
 }
 
 // Why a message was displaced.
-#[derive(Clone, Copy)]
+#[derive(Clone, Copy, Debug, PartialEq, Eq)]
 pub enum PartialDiscardCause {
     Sequence(PartialSequenceKind),
     Resource(PartialResourceLimit),
 }
 
-// What a channel holds, but for its header and its bytes.
+// The message that a channel holds, but for its header and its bytes.
 #[derive(Clone, Copy)]
-pub enum Standing {
-    Nothing,
-    Message {
-        sequence: u32,
-        reliable: bool,
-        finished: bool,
-        bits: u64,
-    },
+pub struct Standing {
+    pub sequence: u32,
+    pub reliable: bool,
+    pub finished: bool,
+    pub bits: u64,
 }
 
 // What becomes of a fragment and of its channel's message.
@@ -57,9 +53,9 @@ pub enum Fate {
 pub struct PartialBunchResult {
     pub header: RawBunchHeader,
     pub should_process: bool,
-    pub resource_limit: PartialResourceLimit,
+    pub resource_limit: Option<PartialResourceLimit>,
     pub discarded_bits: u64,
-    pub error_kind: PartialSequenceKind,
+    pub error_kind: Option<PartialSequenceKind>,
     pub overlapping_initial: bool,
     pub errors: u32,
     pub fragments: u32,
@@ -74,7 +70,7 @@ pub struct Displaced {
     pub cause: PartialDiscardCause,
 }
 
-// What one fragment displaces, in order: the Rust's `displaced`.
+// What one fragment displaces, in order: the Rust's `displaced`, a `Vec` there. There is no heap, and there are never more than two.
 #[derive(Clone, Copy)]
 pub enum Displacement {
     Nothing,

@@ -4,17 +4,13 @@ ghost use Rattle.tables.specs.Columns.{laid, inserted_at, removed_at};
 ghost use Rattle.bunch_places.specs.Bytes.{pasted, part, moved, bytes_of, payload_bytes};
 
 use crate::Place;
+use tables::inner::{insert, remove};
 
 pub fn insert_place(places: &mut [Place], live: usize, at: usize, p: Place)
     requires { (at ≤ live) × (live < length places.old) }
     ensures { places.new ≡ laid (inserted_at at p (take live places.old)) places.old }
 {
-    let mut i = live;
-    while at < i {
-        places[i] = places[i - 1];
-        i -= 1;
-    }
-    places[at] = p;
+    insert(places, live, at, p);
 }
 
 // The place that falls vacant keeps what stood there.
@@ -22,33 +18,7 @@ pub fn remove_place(places: &mut [Place], live: usize, at: usize)
     requires { (at < live) × (live ≤ length places.old) }
     ensures { places.new ≡ laid (removed_at at (take live places.old)) places.old }
 {
-    let mut i = at;
-    while i + 1 < live {
-        places[i] = places[i + 1];
-        i += 1;
-    }
-}
-
-fn move_down_by_bytes(arena: &mut [u8], from: usize, to: usize, n: usize)
-    requires { (to ≤ from) × (from + n ≤ length arena.old) }
-    ensures { arena.new ≡ moved from to n arena.old }
-{
-    let mut i: usize = 0;
-    while i < n {
-        arena[to + i] = arena[from + i];
-        i += 1;
-    }
-}
-
-fn move_up_by_bytes(arena: &mut [u8], from: usize, to: usize, n: usize)
-    requires { (from ≤ to) × (to + n ≤ length arena.old) }
-    ensures { arena.new ≡ moved from to n arena.old }
-{
-    let mut i = n;
-    while 0 < i {
-        i -= 1;
-        arena[to + i] = arena[from + i];
-    }
+    remove(places, live, at);
 }
 
 // By way of a block of its own: what is read whole before it is written needs no test of how the two parts overlap.
@@ -57,11 +27,12 @@ fn move_block(arena: &mut [u8], from: usize, to: usize)
     ensures { arena.new ≡ moved from to 256 arena.old }
 {
     let mut block = [0u8; 256];
-    copy_by_bytes(arena, from, 256, &mut block, 0);
-    copy_by_bytes(&block, 0, 256, arena, to);
+    block.copy_from_slice(&arena[from..from + 256]);
+    arena[to..to + 256].copy_from_slice(&block);
 }
 
-// In blocks; where they move that far, the last may write some bytes once more, and what is left over takes no loop.
+// In blocks, since `copy_within` alone takes 1.4 times as long from 8,000 bytes on. Where they move that far, the last may write some
+// bytes once more, and what is left over takes no loop. No `for`: i is needed behind the loop.
 fn move_down(arena: &mut [u8], from: usize, to: usize, n: usize)
     requires { (to ≤ from) × (from + n ≤ length arena.old) }
     ensures { arena.new ≡ moved from to n arena.old }
@@ -78,7 +49,7 @@ fn move_down(arena: &mut [u8], from: usize, to: usize, n: usize)
             return;
         }
     }
-    move_down_by_bytes(arena, from + i, to + i, n - i);
+    arena.copy_within(from + i..from + n, to + i);
 }
 
 fn move_up(arena: &mut [u8], from: usize, to: usize, n: usize)
@@ -96,10 +67,11 @@ fn move_up(arena: &mut [u8], from: usize, to: usize, n: usize)
             return;
         }
     }
-    move_up_by_bytes(arena, from, to, i);
+    arena.copy_within(from..from + i, to);
 }
 
 // From the end that is written over last; what stays where it is costs nothing.
+#[tactic(auto, using(crate::proofs::Pastes::pasted_same))]
 pub fn move_bytes(arena: &mut [u8], from: usize, to: usize, n: usize)
     requires { (from + n ≤ length arena.old) × (to + n ≤ length arena.old) }
     ensures { arena.new ≡ moved from to n arena.old }
@@ -111,33 +83,11 @@ pub fn move_bytes(arena: &mut [u8], from: usize, to: usize, n: usize)
     }
 }
 
-fn copy_by_bytes(src: &[u8], from: usize, n: usize, out: &mut [u8], at: usize)
-    requires { (from + n ≤ length src.now) × (at + n ≤ length out.old) }
-    ensures { out.new ≡ pasted at (part from n src.now) out.old }
-{
-    let mut i: usize = 0;
-    while i < n {
-        out[at + i] = src[from + i];
-        i += 1;
-    }
-}
-
-// Blocks of a known length, which the compiler makes straight code of; the last ends where all ends, and writes some bytes once more.
 pub fn copy_bytes(src: &[u8], from: usize, n: usize, out: &mut [u8], at: usize)
     requires { (from + n ≤ length src.now) × (at + n ≤ length out.old) }
     ensures { out.new ≡ pasted at (part from n src.now) out.old }
 {
-    if n < 256 {
-        copy_by_bytes(src, from, n, out, at);
-        return;
-    }
-    let last = n - 256;
-    let mut i: usize = 0;
-    while i < last {
-        copy_by_bytes(src, from + i, 256, out, at + i);
-        i += 256;
-    }
-    copy_by_bytes(src, from + last, 256, out, at + last);
+    out[at..at + n].copy_from_slice(&src[from..from + n]);
 }
 
 fn low(byte: u8, n: u64) -> u8

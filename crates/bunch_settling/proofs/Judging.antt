@@ -9,7 +9,7 @@ use lib.ListN.{length, get_or, take}
 use borrow.Author.Tests.{eqb-true, ltb-false, leb-false, not-true}
 use Rattle.types.specs.declared.PartialSequenceKind.{PartialSequenceKind}
 use Rattle.types.specs.declared.RawBunchHeader.{RawBunchHeader}
-use Rattle.tables.specs.declared.Slot.{Slot}
+use Rattle.std.specs.Prelude.{Ok, Err}
 use Rattle.tables.specs.Tables.{Found, none, found, put, without, slot_of}
 use Rattle.bunch_places.specs.Bytes.{bytes_of}
 use Rattle.bunch_judging.specs.declared.Effect.{Effect}
@@ -139,7 +139,7 @@ module _ (a : Accumulator) (m : HeldMemory) (used : ℕ) (u : Using a m used) (c
   abbrev s : State
   s = held_by a m
 
-  module _ (slot : slot_of c (take a.active m.channels) ≡ Slot.At i) where
+  module _ (slot : slot_of c (take a.active m.channels) ≡ Ok i) where
     abbrev p : List ℕ
     p = get_or m.places i []
 
@@ -175,7 +175,7 @@ module _ (a : Accumulator) (m : HeldMemory) (used : ℕ) (u : Using a m used) (c
         (grown_good e (found old) h f (λ n q b. let same : old ≡ n = cc in rw (← same) (good_held c s there k.good, not-true old.finished (stays_unfinished false much (found old) f stays (sym anew ∙ b)))) sequence enough (even false much (found old) f stays))
         (λ n. let z : ◌≡◌ {A = ℕ} 0 1 = cc in absurd (omega arith)) (rw bits fits)
 
-  module _ (slot : slot_of c (take a.active m.channels) ≡ Slot.Free i) where
+  module _ (slot : slot_of c (take a.active m.channels) ≡ Err i) where
     pub full_free : leb a.max_active a.active ≡ full (limits_of a) s c
     unfolding full
     full_free = rw (get_none a m u.stands c i slot, (columns a m u.stands).size) refl

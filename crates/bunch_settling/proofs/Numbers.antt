@@ -4,7 +4,7 @@ use mathlib.Core.Path.{◌≡◌, refl}
 use mathlib.Core.List.{[]}
 use native.Mathlib.Omega.{arith}
 use lib.ListN.{length, get_or, take}
-use Rattle.tables.specs.declared.Slot.{Slot}
+use Rattle.std.specs.Prelude.{Ok}
 use Rattle.tables.specs.Tables.{slot_of}
 use Rattle.bunch_places.proofs.Packed.{start_within}
 use Rattle.bunch_held.specs.declared.Accumulator.{Accumulator}
@@ -55,7 +55,7 @@ numbers a m used c i start o =
     }
 
 -- where the channel's slot was found
-pub spot : (a : Accumulator) (m : HeldMemory) (used : ℕ) → Using a m used → (c i : ℕ) → slot_of c (take a.active m.channels) ≡ Slot.At i → Numbers a m used i (size_all (take i m.places))
+pub spot : (a : Accumulator) (m : HeldMemory) (used : ℕ) → Using a m used → (c i : ℕ) → slot_of c (take a.active m.channels) ≡ Ok i → Numbers a m used i (size_all (take i m.places))
 spot a m used u c i slot = numbers a m used c i (size_all (take i m.places)) (record { sound = u; slot = slot; start_is = refl })
 
 -- at a vacant one

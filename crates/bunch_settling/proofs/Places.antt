@@ -8,7 +8,7 @@ use native.Mathlib.Omega.{arith}
 use lib.ListN.{length, get_or, set, take, drop, get_or-map}
 use lib.Seq.{get_or-take}
 use Rattle.types.specs.declared.RawBunchHeader.{RawBunchHeader}
-use Rattle.tables.specs.declared.Slot.{Slot}
+use Rattle.std.specs.Prelude.{Ok}
 use Rattle.tables.specs.Tables.{found, values, slot_of}
 use Rattle.bunch_judging.specs.Held.{Fragment}
 use Rattle.bunch_judging.specs.Fates.{sequence_word}
@@ -58,7 +58,7 @@ place_is a m s i h =
     ∙ rw (places_are a m s) (get_or-take a.active m.places i (place_words d) h)
     ∙ any_default m.places i (place_words d) [] (omega (arith, s))
 
-pub place_long : (a : Accumulator) (m : HeldMemory) → Stands a m → (c i : ℕ) → slot_of c (take a.active m.channels) ≡ Slot.At i → length (get_or m.places i []) ≡ 24
+pub place_long : (a : Accumulator) (m : HeldMemory) → Stands a m → (c i : ℕ) → slot_of c (take a.active m.channels) ≡ Ok i → length (get_or m.places i []) ≡ 24
 unfolding place_words
 place_long a m s c i slot =
     let good = good_held c (held_by a m) (get_there a m s c i slot) (kept a m s).good in

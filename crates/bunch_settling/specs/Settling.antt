@@ -1,15 +1,33 @@
 -- What the edits of sound memory ask, and what they leave.
 use Rattle.std.specs.Prelude.{ℕ, ◌+◌, ◌≤◌, ◌<◌, ◌≡◌, List, [], length, take, get_or}
 use Rattle.types.specs.Types.{longest_payload, most_buffered_bits}
-use Rattle.tables.specs.declared.Slot.{Slot}
+use Rattle.std.specs.Prelude.{Ok, Err}
 use Rattle.tables.specs.Tables.{slot_of}
 use Rattle.bunch_places.specs.Bytes.{bytes_of}
 use Rattle.bunch_judging.specs.Held.{Held}
 use Rattle.bunch_held.specs.declared.Accumulator.{Accumulator}
-use Rattle.bunch_held.specs.Memory.{HeldMemory, State, place_words, bits_in_place, size_of, size_all, bytes_all, laid_in, accumulator_of}
+use Rattle.bunch_held.specs.Memory.{HeldMemory, held_memory, State, laid_in, accumulator_of}
+use Rattle.bunch_held.specs.Memory.{place_words, bits_in_place, size_of, size_all, bytes_all}
 use Rattle.bunch_held.specs.State.{Stands}
 use Rattle.bunch_held.specs.Calls.{held_by, counting}
 use Rattle.bunch_settling.specs.declared.inner.messages.Settled.{Settled}
+
+abbrev pub settled_memory : Settled → HeldMemory
+settled_memory s = held_memory s.channels.now s.places.now s.arena.now
+
+-- the same slices are lent, whatever they hold
+pub record SameSlices (s t : Settled) : Type 0 where
+  pub channels : t.channels.ghost_name ≡ s.channels.ghost_name
+  pub places : t.places.ghost_name ≡ s.places.ghost_name
+  pub arena : t.arena.ghost_name ≡ s.arena.ghost_name
+
+-- what is counted beside the memory
+pub record Counts : Type 0 where
+  pub accumulator : Accumulator
+  pub used : ℕ
+
+abbrev pub counts_of : Settled → Counts
+counts_of s = record { accumulator = s.accumulator; used = s.used }
 
 -- sound memory, and how many bytes of its arena are used
 pub record Using (a : Accumulator) (m : HeldMemory) (used : ℕ) : Type 0 where
@@ -19,13 +37,13 @@ pub record Using (a : Accumulator) (m : HeldMemory) (used : ℕ) : Type 0 where
 -- the channel's message stands at place i, and its bytes from `start` on
 pub record Occupied (a : Accumulator) (m : HeldMemory) (used c i start : ℕ) : Type 0 where
   pub sound : Using a m used
-  pub slot : slot_of c (take a.active m.channels) ≡ Slot.At i
+  pub slot : slot_of c (take a.active m.channels) ≡ Ok i
   pub start_is : start ≡ size_all (take i m.places)
 
 -- the channel holds nothing; its message would stand at place i, and its bytes from `start` on
 pub record Vacant (a : Accumulator) (m : HeldMemory) (used c i start : ℕ) : Type 0 where
   pub sound : Using a m used
-  pub slot : slot_of c (take a.active m.channels) ≡ Slot.Free i
+  pub slot : slot_of c (take a.active m.channels) ≡ Err i
   pub start_is : start ≡ size_all (take i m.places)
 
 -- room for what a message's bytes become
@@ -62,12 +80,12 @@ pub record Is (h : Held) (p bytes : List ℕ) : Type 0 where
   pub place_is : place_words h ≡ p
   pub bytes_are : h.message.bytes ≡ bytes
 
-abbrev pub settled : Accumulator → ℕ → ℕ → ℕ → Settled
+abbrev pub settled : Accumulator → ℕ → ℕ → ℕ → Counts
 settled a active total used =
     record { accumulator = accumulator_of a.max_active a.max_buffered_bits active total; used = used }
 
 -- the state s laid in memory m, with its counts
-pub record Lays (a : Accumulator) (m : HeldMemory) (s : State) (r : Settled) (after : HeldMemory) : Type 0 where
+pub record Lays (a : Accumulator) (m : HeldMemory) (s : State) (r : Counts) (after : HeldMemory) : Type 0 where
   pub memory_is : after ≡ laid_in s m
   pub counts : r.accumulator ≡ counting a s
   pub used_is : r.used ≡ length (bytes_all s)

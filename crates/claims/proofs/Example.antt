@@ -5,11 +5,11 @@ use mathlib.Core.Bool.{Bool, true, false}
 use mathlib.Core.List.{List, [], ◌∷◌}
 use lib.Count.{count_leading_zeros}
 use lib.IntN.{pos}
+use Rattle.std.specs.Prelude.{None}
 use Rattle.bitio_bits.specs.Bits.{bit_at}
 use Rattle.bitio_window.specs.Parse.{value}
 use Rattle.bitio_window.specs.Numbers.{log2}
 use Rattle.types.specs.declared.ChannelCloseReason.{ChannelCloseReason}
-use Rattle.types.specs.declared.PartialSequenceKind.{PartialSequenceKind}
 use Rattle.types.specs.declared.RawBunchHeader.{RawBunchHeader}
 use Rattle.writer_spelling.specs.Bits.{number_bits, bits_from, only_if, packed_up_to, packed_bits, serialized_bits, put_bit, put_bits}
 use Rattle.writer_spelling.specs.Header.{fields_of, front_bits, back_bits, header_bits, bunch_bits, writable}
@@ -37,7 +37,7 @@ header channel set =
       payload_bit_count = 0;
       payload_bit_offset = 0;
       has_partial_error = false;
-      partial_error_kind = PartialSequenceKind.None;
+      partial_error_kind = None;
       is_partial_completed = false;
       has_channel_limit_error = false;
     }

@@ -6,7 +6,7 @@ use mathlib.Core.List.{List, [], ◌∷◌}
 use native.Mathlib.Omega.{arith}
 use lib.IntN.{pos}
 use Rattle.types.specs.declared.ChannelCloseReason.{ChannelCloseReason}
-use Rattle.types.specs.declared.PartialSequenceKind.{PartialSequenceKind}
+use Rattle.std.proofs.Common.{None}
 use Rattle.types.specs.declared.RawBunchHeader.{RawBunchHeader}
 use Rattle.tables.specs.Columns.{laid, beside}
 use Rattle.tables.specs.Tables.{get}
@@ -42,7 +42,7 @@ header first n =
       payload_bit_count = 0;
       payload_bit_offset = 0;
       has_partial_error = false;
-      partial_error_kind = PartialSequenceKind.None;
+      partial_error_kind = None;
       is_partial_completed = false;
       has_channel_limit_error = false;
     }

@@ -11,6 +11,7 @@ use lib.Seq.{length-take-le, get_or-append-add, get_or_at}
 use mir.Syntax.{w32}
 use mir.ValLaws.{of_z_fits}
 use borrow.Author.Tests.{not-true}
+use Rattle.std.proofs.Common.{Some}
 use Rattle.types.specs.declared.PartialSequenceKind.{PartialSequenceKind}
 use Rattle.types.specs.declared.RawBunchHeader.{RawBunchHeader}
 use Rattle.tables.specs.Tables.{Found, none, found}
@@ -86,7 +87,7 @@ same_sequence : (m : Found Held) (h : RawBunchHeader) → sequence_word (after_t
 unfolding after_test flagged
 same_sequence m h = go (overlaps m h.b_partial_initial)
   where
-    go : (b : Bool) → sequence_word (cond b (erring PartialSequenceKind.OverlappingInitial h) h) ≡ sequence_word h
+    go : (b : Bool) → sequence_word (cond b (erring (Some PartialSequenceKind.OverlappingInitial) h) h) ≡ sequence_word h
     go true = refl
     go false = refl
 

@@ -22,12 +22,7 @@ pub extern "C" fn gritwheel_copy_bits_to(
         (out.new ≡ words none copy)
         × (target.new ≡ copy_leaves copy target.old bytes.now (start + position) count) }
 {
-    let read = copies::copy_bits_to(
-        bytes,
-        words::window_at(start, position, size),
-        target,
-        count,
-    );
-    let answer = words::of_done(read);
-    *out = answer;
+    let mut w = words::window_at(start, position, size);
+    let copy = copies::copy_bits_to(bytes, &mut w, target, count);
+    *out = words::of_read(copy, w);
 }

@@ -1,4 +1,5 @@
-// Reads. Each writes the seven words of its answer.
+// Reads. Each writes the seven words of its answer. C finds each by its name, and gives a
+// window as three numbers.
 ghost use Rattle.std.specs.Prelude.{◌≡◌};
 ghost use Rattle.bitio_window.specs.Reads.{read_bit, read_bits, read_i32, read_f32, read_f64};
 ghost use Rattle.bitio_window.specs.Numbers.{read_packed, read_serialized};
@@ -6,7 +7,6 @@ ghost use Rattle.bitio_window.specs.Windows.{window_at};
 ghost use Rattle.exports_words.specs.Words.{words, one, flag_word, signed_word, pattern, float};
 
 use bitio::reads;
-use bitio_window::{F32, F64};
 use exports_words::words;
 use exports_words::words::Words;
 
@@ -20,8 +20,7 @@ pub extern "C" fn gritwheel_read_bit(
 )
     ensures { out.new ≡ words flag_word (read_bit bytes.now (window_at start position length)) }
 {
-    let answer = words::of_bit(reads::read_bit(bytes, words::window_at(start, position, length)));
-    *out = answer;
+    *out = words::of_call(start, position, length, |w| reads::read_bit(bytes, w));
 }
 
 #[unsafe(no_mangle)]
@@ -35,12 +34,12 @@ pub extern "C" fn gritwheel_read_bits(
 )
     ensures { out.new ≡ words one (read_bits count bytes.now (window_at start position length)) }
 {
-    let answer = words::of_u64(reads::read_bits(
-        bytes,
-        words::window_at(start, position, length),
-        count,
-    ));
-    *out = answer;
+    *out = words::of_call(
+        start,
+        position,
+        length,
+        |w| reads::read_bits(bytes, w, count),
+    );
 }
 
 #[unsafe(no_mangle)]
@@ -53,8 +52,7 @@ pub extern "C" fn gritwheel_read_u8(
 )
     ensures { out.new ≡ words one (read_bits 8 bytes.now (window_at start position length)) }
 {
-    let answer = words::of_u8(reads::read_u8(bytes, words::window_at(start, position, length)));
-    *out = answer;
+    *out = words::of_call(start, position, length, |w| reads::read_u8(bytes, w));
 }
 
 #[unsafe(no_mangle)]
@@ -67,8 +65,7 @@ pub extern "C" fn gritwheel_read_u16(
 )
     ensures { out.new ≡ words one (read_bits 16 bytes.now (window_at start position length)) }
 {
-    let answer = words::of_u16(reads::read_u16(bytes, words::window_at(start, position, length)));
-    *out = answer;
+    *out = words::of_call(start, position, length, |w| reads::read_u16(bytes, w));
 }
 
 #[unsafe(no_mangle)]
@@ -81,8 +78,7 @@ pub extern "C" fn gritwheel_read_u32(
 )
     ensures { out.new ≡ words one (read_bits 32 bytes.now (window_at start position length)) }
 {
-    let answer = words::of_u32(reads::read_u32(bytes, words::window_at(start, position, length)));
-    *out = answer;
+    *out = words::of_call(start, position, length, |w| reads::read_u32(bytes, w));
 }
 
 #[unsafe(no_mangle)]
@@ -95,8 +91,7 @@ pub extern "C" fn gritwheel_read_i32(
 )
     ensures { out.new ≡ words signed_word (read_i32 bytes.now (window_at start position length)) }
 {
-    let answer = words::of_i32(reads::read_i32(bytes, words::window_at(start, position, length)));
-    *out = answer;
+    *out = words::of_call(start, position, length, |w| reads::read_i32(bytes, w));
 }
 
 #[unsafe(no_mangle)]
@@ -109,10 +104,10 @@ pub extern "C" fn gritwheel_read_u64(
 )
     ensures { out.new ≡ words one (read_bits 64 bytes.now (window_at start position length)) }
 {
-    let answer = words::of_u64(reads::read_u64(bytes, words::window_at(start, position, length)));
-    *out = answer;
+    *out = words::of_call(start, position, length, |w| reads::read_u64(bytes, w));
 }
 
+#[tactic(auto, using(exports_words::proofs::Floats::float_words, exports_words::proofs::Floats::float_stored))]
 #[unsafe(no_mangle)]
 pub extern "C" fn gritwheel_read_f32(
     bytes: &[u8],
@@ -125,15 +120,13 @@ pub extern "C" fn gritwheel_read_f32(
     ensures { let read = read_f32 bytes.now (window_at start position length) in
         (out.new ≡ words pattern read) × (value.new ≡ float value.old read) }
 {
-    let read = reads::read_f32(bytes, words::window_at(start, position, length));
-    let answer = words::of_f32(read);
-    *out = answer;
-    let found = read.answer;
-    if let F32::Value(single) = found {
-        *value = single;
-    }
+    let mut w = words::window_at(start, position, length);
+    let single = reads::read_f32(bytes, &mut w);
+    *out = words::of_read(single, w);
+    words::store_number(single, value);
 }
 
+#[tactic(auto, using(exports_words::proofs::Floats::float_words, exports_words::proofs::Floats::float_stored))]
 #[unsafe(no_mangle)]
 pub extern "C" fn gritwheel_read_f64(
     bytes: &[u8],
@@ -146,13 +139,10 @@ pub extern "C" fn gritwheel_read_f64(
     ensures { let read = read_f64 bytes.now (window_at start position length) in
         (out.new ≡ words pattern read) × (value.new ≡ float value.old read) }
 {
-    let read = reads::read_f64(bytes, words::window_at(start, position, length));
-    let answer = words::of_f64(read);
-    *out = answer;
-    let found = read.answer;
-    if let F64::Value(double) = found {
-        *value = double;
-    }
+    let mut w = words::window_at(start, position, length);
+    let double = reads::read_f64(bytes, &mut w);
+    *out = words::of_read(double, w);
+    words::store_number(double, value);
 }
 
 #[unsafe(no_mangle)]
@@ -165,11 +155,12 @@ pub extern "C" fn gritwheel_read_int_packed(
 )
     ensures { out.new ≡ words one (read_packed bytes.now (window_at start position length)) }
 {
-    let answer = words::of_u32(reads::read_int_packed(
-        bytes,
-        words::window_at(start, position, length),
-    ));
-    *out = answer;
+    *out = words::of_call(
+        start,
+        position,
+        length,
+        |w| reads::read_int_packed(bytes, w),
+    );
 }
 
 #[unsafe(no_mangle)]
@@ -183,10 +174,10 @@ pub extern "C" fn gritwheel_read_serialized_int(
 )
     ensures { out.new ≡ words one (read_serialized max bytes.now (window_at start position length)) }
 {
-    let answer = words::of_u32(reads::read_serialized_int(
-        bytes,
-        words::window_at(start, position, length),
-        max,
-    ));
-    *out = answer;
+    *out = words::of_call(
+        start,
+        position,
+        length,
+        |w| reads::read_serialized_int(bytes, w, max),
+    );
 }

@@ -12,16 +12,14 @@ use exports_words::words::Words;
 pub extern "C" fn gritwheel_new(bytes: &[u8], out: &mut Words)
     ensures { out.new ≡ opened_words (new_window bytes.now) }
 {
-    let answer = words::of_opened(windows::new(bytes));
-    *out = answer;
+    *out = words::of_opened(windows::new(bytes));
 }
 
 #[unsafe(no_mangle)]
 pub extern "C" fn gritwheel_with_bit_len(bytes: &[u8], bit_len: u64, out: &mut Words)
     ensures { out.new ≡ opened_words (with_bit_len bytes.now bit_len) }
 {
-    let answer = words::of_opened(windows::with_bit_len(bytes, bit_len));
-    *out = answer;
+    *out = words::of_opened(windows::with_bit_len(bytes, bit_len));
 }
 
 #[unsafe(no_mangle)]
@@ -43,8 +41,7 @@ pub extern "C" fn gritwheel_bits_remaining(start: u64, position: u64, length: u6
     ensures { let w = window_at start position length in out.new ≡ count_words w (bits_remaining w) }
 {
     let w = words::window_at(start, position, length);
-    let answer = words::of_count(w, windows::bits_remaining(w));
-    *out = answer;
+    *out = words::of_count(w, windows::bits_remaining(w));
 }
 
 #[unsafe(no_mangle)]
@@ -65,12 +62,12 @@ pub extern "C" fn gritwheel_sub_reader(
 )
     ensures { out.new ≡ words window_words (sub_reader count bytes.now (window_at start position length)) }
 {
-    let answer = words::of_sub(windows::sub_reader(
-        bytes,
-        words::window_at(start, position, length),
-        count,
-    ));
-    *out = answer;
+    *out = words::of_call(
+        start,
+        position,
+        length,
+        |w| windows::sub_reader(bytes, w, count),
+    );
 }
 
 #[unsafe(no_mangle)]
@@ -84,12 +81,12 @@ pub extern "C" fn gritwheel_skip_bits(
 )
     ensures { out.new ≡ words none (skip_bits count bytes.now (window_at start position length)) }
 {
-    let answer = words::of_done(windows::skip_bits(
-        bytes,
-        words::window_at(start, position, length),
-        count,
-    ));
-    *out = answer;
+    *out = words::of_call(
+        start,
+        position,
+        length,
+        |w| windows::skip_bits(bytes, w, count),
+    );
 }
 
 #[unsafe(no_mangle)]
@@ -102,9 +99,10 @@ pub extern "C" fn gritwheel_skip_remaining(
 )
     ensures { out.new ≡ words none (skip_remaining bytes.now (window_at start position length)) }
 {
-    let answer = words::of_done(windows::skip_remaining(
-        bytes,
-        words::window_at(start, position, length),
-    ));
-    *out = answer;
+    *out = words::of_call(
+        start,
+        position,
+        length,
+        |w| windows::skip_remaining(bytes, w),
+    );
 }

@@ -8,7 +8,7 @@ ghost use Rattle.exports_bunch_words.specs.Fragments.{fragment_words};
 ghost use Rattle.bunch_judging.specs.Held.{fragment_of};
 
 use bunch::calls;
-use bunch_held::Accumulator;
+use bunch_held::{Accumulator, LentMemory};
 use bunch_places::Place;
 use exports_bunch_words::fragments;
 use exports_bunch_words::fragments::FragmentWords;
@@ -37,16 +37,18 @@ pub extern "C" fn gritwheel_add_fragment(
         let reply = called a before ch_index (adding fragment) output.old in
         (out.new ≡ fragment_words reply) × ((after ≡ reply.memory) × (output.new ≡ reply.output)) }
 {
-    let a = Accumulator {
+    let mut a = Accumulator {
         max_active,
         max_buffered_bits,
         active,
         total_buffered_bits: total,
     };
+    let mut memory = LentMemory {
+        channels,
+        places,
+        arena,
+    };
     let h = header_of(*header);
-    let reply = calls::add_fragment(
-        a, ch_index, h, payload, bits, channels, places, arena, output,
-    );
-    let answer = fragments::of_added(reply);
-    *out = answer;
+    let answer = calls::add_fragment(&mut a, ch_index, h, payload, bits, &mut memory, output);
+    *out = fragments::of_added(answer, a);
 }

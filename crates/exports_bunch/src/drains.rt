@@ -4,7 +4,7 @@ ghost use Rattle.bunch_held.specs.Memory.{held_memory, accumulator_of};
 ghost use Rattle.bunch.specs.Draining.{drained};
 ghost use Rattle.exports_bunch.specs.Drained.{shown_byte_count, drained_words};
 
-use bunch::{Drain, Listed, drains, inner};
+use bunch::{Listed, drains, inner};
 use bunch_held::Accumulator;
 use bunch_places::Place;
 use exports_bunch_words::taken::said;
@@ -30,35 +30,33 @@ pub extern "C" fn gritwheel_drain_unfinished(
         (out.new ≡ drained_words reply (shown_byte_count a before))
         × ((output.new ≡ reply.output) × (list.new ≡ reply.list)) }
 {
-    let a = Accumulator {
+    let mut a = Accumulator {
         max_active,
         max_buffered_bits,
         active,
         total_buffered_bits: total,
     };
-    let reply = drains::drain_unfinished(a, channels, places, arena, output, list);
-    let answer = reply.answer;
-    let left = reply.accumulator;
+    let answer = drains::drain_unfinished(&mut a, channels, places, arena, output, list);
     match answer {
-        Drain::Messages(n) => {
+        Ok(n) => {
             // The memory was sound, so its places can be counted.
             let wanted = inner::count(places, active);
             *out = [
                 0,
                 0,
-                left.active as u64,
-                left.total_buffered_bits,
+                a.active as u64,
+                a.total_buffered_bits,
                 n as u64,
                 wanted.bytes as u64,
             ];
         }
-        Drain::Refused(e) => {
+        Err(e) => {
             let s = said(e);
             *out = [
                 s.number,
                 s.returned,
-                left.active as u64,
-                left.total_buffered_bits,
+                a.active as u64,
+                a.total_buffered_bits,
                 0,
                 0,
             ];

@@ -6,7 +6,7 @@ ghost use Rattle.bunch_held.specs.Calls.{called};
 ghost use Rattle.exports_bunch_words.specs.Handed.{handed_words};
 
 use bunch::calls;
-use bunch_held::Accumulator;
+use bunch_held::{Accumulator, LentMemory};
 use bunch_places::Place;
 use exports_bunch_words::taken;
 use exports_bunch_words::taken::HandedWords;
@@ -30,15 +30,19 @@ pub extern "C" fn gritwheel_take_completed(
         let reply = called a before ch_index taking output.old in
         (out.new ≡ handed_words reply) × ((after ≡ reply.memory) × (output.new ≡ reply.output)) }
 {
-    let a = Accumulator {
+    let mut a = Accumulator {
         max_active,
         max_buffered_bits,
         active,
         total_buffered_bits: total,
     };
-    let reply = calls::take_completed(a, ch_index, channels, places, arena, output);
-    let answer = taken::of_taken(reply);
-    *out = answer;
+    let mut memory = LentMemory {
+        channels,
+        places,
+        arena,
+    };
+    let answer = calls::take_completed(&mut a, ch_index, &mut memory, output);
+    *out = taken::of_taken(answer, a);
 }
 
 #[unsafe(no_mangle)]
@@ -60,13 +64,17 @@ pub extern "C" fn gritwheel_retire_channel(
         let reply = called a before ch_index retiring output.old in
         (out.new ≡ handed_words reply) × ((after ≡ reply.memory) × (output.new ≡ reply.output)) }
 {
-    let a = Accumulator {
+    let mut a = Accumulator {
         max_active,
         max_buffered_bits,
         active,
         total_buffered_bits: total,
     };
-    let reply = calls::retire_channel(a, ch_index, channels, places, arena, output);
-    let answer = taken::of_taken(reply);
-    *out = answer;
+    let mut lent = LentMemory {
+        channels,
+        places,
+        arena,
+    };
+    let answer = calls::retire_channel(&mut a, ch_index, &mut lent, output);
+    *out = taken::of_taken(answer, a);
 }

@@ -4,23 +4,24 @@ ghost use Rattle.bunch_held.specs.Memory.{held_memory};
 ghost use Rattle.bunch.specs.Opening.{of_opened_accumulator, opened_accumulator};
 ghost use Rattle.exports_bunch.specs.Opening.{limits_words};
 
-use bunch::{Opened, opening};
+use bunch::{Unfit, opening};
+use bunch_held::Accumulator;
 use bunch_places::Place;
 
 pub type LimitsWords = [u64; 5];
 
-fn of_opened(r: Opened) -> LimitsWords
+fn of_opened(r: Result<Accumulator, Unfit>) -> LimitsWords
     ensures { result ≡ limits_words (of_opened_accumulator r) }
 {
     match r {
-        Opened::Value(a) => [
+        Ok(a) => [
             0,
             a.max_active as u64,
             a.max_buffered_bits,
             a.active as u64,
             a.total_buffered_bits,
         ],
-        Opened::Refused => [9, 0, 0, 0, 0],
+        Err(Unfit) => [9, 0, 0, 0, 0],
     }
 }
 
@@ -37,6 +38,5 @@ pub extern "C" fn gritwheel_with_limits(
         out.new ≡ limits_words (opened_accumulator max_active max_buffered_bits before) }
 {
     let opened = opening::with_limits(max_active, max_buffered_bits, channels, places, arena);
-    let answer = of_opened(opened);
-    *out = answer;
+    *out = of_opened(opened);
 }

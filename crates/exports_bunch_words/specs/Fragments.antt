@@ -1,5 +1,5 @@
 -- What adding a fragment answers, as 79 words.
-use Rattle.std.specs.Prelude.{ℕ, List, [], ◌∷◌, ◌++◌}
+use Rattle.std.specs.Prelude.{ℕ, List, [], ◌∷◌, ◌++◌, Option, Some, None}
 use mir.Val.{bool_byte}
 use Rattle.words.specs.Words.{kind_word, header_words}
 use Rattle.bunch_judging.specs.declared.PartialResourceLimit.{PartialResourceLimit}
@@ -9,18 +9,18 @@ use Rattle.bunch_held.specs.Steps.{MessageOut, BunchAnswer, refused, judged, han
 use Rattle.bunch_held.specs.Calls.{BunchReply}
 use Rattle.exports_bunch_words.specs.Handed.{said_words}
 
-abbrev pub limit_word : PartialResourceLimit → ℕ
-limit_word PartialResourceLimit.None = 0
-limit_word PartialResourceLimit.ActiveStates = 1
-limit_word PartialResourceLimit.BufferedBits = 2
+abbrev pub limit_word : Option PartialResourceLimit → ℕ
+limit_word None = 0
+limit_word (Some PartialResourceLimit.ActiveStates) = 1
+limit_word (Some PartialResourceLimit.BufferedBits) = 2
 
 abbrev pub cause_word : PartialDiscardCause → ℕ
 cause_word (PartialDiscardCause.Sequence k) = 0
 cause_word (PartialDiscardCause.Resource l) = 1
 
 abbrev pub cause_value : PartialDiscardCause → ℕ
-cause_value (PartialDiscardCause.Sequence k) = kind_word k
-cause_value (PartialDiscardCause.Resource l) = limit_word l
+cause_value (PartialDiscardCause.Sequence k) = kind_word (Some k)
+cause_value (PartialDiscardCause.Resource l) = limit_word (Some l)
 
 abbrev pub result_words : PartialBunchResult → List ℕ
 result_words r =

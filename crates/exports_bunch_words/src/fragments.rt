@@ -5,8 +5,8 @@ ghost use Rattle.bunch_joining.specs.Added.{told_by, of_added};
 ghost use Rattle.exports_bunch_words.specs.Fragments.{limit_word, cause_word, cause_value, result_words, displaced_words, fragment_words};
 
 use crate::taken::{Numbers, said};
-use bunch_held::Accumulator;
-use bunch_joining::{Added, Judged};
+use bunch_held::{Accumulator, BunchError};
+use bunch_joining::Judged;
 use bunch_judging::{
     Displaced, Displacement, PartialBunchResult, PartialDiscardCause, PartialResourceLimit,
 };
@@ -19,13 +19,13 @@ pub type ResultWords = [u64; 28];
 
 pub type DisplacedWords = [u64; 23];
 
-fn limit(l: PartialResourceLimit) -> u64
+fn limit(l: Option<PartialResourceLimit>) -> u64
     ensures { result ≡ limit_word l }
 {
     match l {
-        PartialResourceLimit::None => 0,
-        PartialResourceLimit::ActiveStates => 1,
-        PartialResourceLimit::BufferedBits => 2,
+        None => 0,
+        Some(PartialResourceLimit::ActiveStates) => 1,
+        Some(PartialResourceLimit::BufferedBits) => 2,
     }
 }
 
@@ -42,8 +42,8 @@ fn cause_value(c: PartialDiscardCause) -> u64
     ensures { result ≡ cause_value c }
 {
     match c {
-        PartialDiscardCause::Sequence(k) => kind_word(k),
-        PartialDiscardCause::Resource(l) => limit(l),
+        PartialDiscardCause::Sequence(k) => kind_word(Some(k)),
+        PartialDiscardCause::Resource(l) => limit(Some(l)),
     }
 }
 
@@ -115,26 +115,21 @@ fn joined(
     w
 }
 
-fn nothing_said() -> Numbers
-    ensures { result ≡ record { number = 0; returned = 0 } }
-{
-    Numbers {
-        number: 0,
-        returned: 0,
-    }
-}
+const NOTHING_SAID: Numbers = Numbers {
+    number: 0,
+    returned: 0,
+};
 
-pub fn of_added(r: Added) -> FragmentWords
-    ensures { (m : HeldMemory) (output : List ℕ) → result ≡ fragment_words (of_added r m output) }
+// The answer, with what is then held.
+pub fn of_added(r: Result<Judged, BunchError>, a: Accumulator) -> FragmentWords
+    ensures { (m : HeldMemory) (output : List ℕ) → result ≡ fragment_words (of_added r a m output) }
 {
-    let answer = r.answer;
-    let a = r.accumulator;
     let none: DisplacedWords = [0; 23];
-    match answer {
-        Judged::Result { result, displaced } => {
-            let w = of_result(result);
-            let s = nothing_said();
-            match displaced {
+    match r {
+        Ok(judged) => {
+            let w = of_result(judged.result);
+            let s = NOTHING_SAID;
+            match judged.displaced {
                 Displacement::Nothing => joined(s, a, w, 0, none, none),
                 Displacement::One(d) => joined(s, a, w, 1, of_displaced(d), none),
                 Displacement::Two { first, second } => {
@@ -142,7 +137,7 @@ pub fn of_added(r: Added) -> FragmentWords
                 }
             }
         }
-        Judged::Refused(e) => {
+        Err(e) => {
             let w: ResultWords = [0; 28];
             joined(said(e), a, w, 0, none, none)
         }

@@ -5,8 +5,8 @@ ghost use Rattle.bunch_held.specs.Refusals.{error_paper};
 ghost use Rattle.bunch_joining.specs.Taken.{of_taken};
 ghost use Rattle.exports_bunch_words.specs.Handed.{handed_words};
 
-use bunch_held::BunchError;
-use bunch_joining::{Handed, Taken};
+use bunch_held::{Accumulator, BunchError};
+use bunch_joining::PreservedPartial;
 use words::inner::put;
 use words::of_header;
 
@@ -45,24 +45,23 @@ pub fn said(e: BunchError) -> Numbers
     }
 }
 
-pub fn of_taken(r: Taken) -> HandedWords
-    ensures { (m : HeldMemory) (output : List ℕ) → result ≡ handed_words (of_taken r m output) }
+// The answer, with what is then held.
+pub fn of_taken(r: Result<Option<PreservedPartial>, BunchError>, a: Accumulator) -> HandedWords
+    ensures { (m : HeldMemory) (output : List ℕ) → result ≡ handed_words (of_taken r a m output) }
 {
-    let answer = r.answer;
-    let a = r.accumulator;
     let mut w: HandedWords = [0; 26];
     w[2] = a.active as u64;
     w[3] = a.total_buffered_bits;
-    match answer {
-        Handed::Message { header, bit_count } => {
-            let h = of_header(header);
+    match r {
+        Ok(Some(message)) => {
+            let h = of_header(message.header);
             w[4] = 1;
             put(&mut w, 5, &h);
-            w[25] = bit_count;
+            w[25] = message.bit_count;
             w
         }
-        Handed::Nothing => w,
-        Handed::Refused(e) => {
+        Ok(None) => w,
+        Err(e) => {
             let s = said(e);
             w[0] = s.number;
             w[1] = s.returned;

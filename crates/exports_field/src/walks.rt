@@ -21,9 +21,9 @@ pub extern "C" fn gritwheel_parse_rep_layout(
     ensures { let walked = parse_rep_layout false bytes.now records.old (window_at start position length) in
         (out.new ≡ walk_words walked) × (records.new ≡ walked.places) }
 {
-    let walk = walks::parse_rep_layout(bytes, words::window_at(start, position, length), records);
-    let answer = words::of_walk(walk);
-    *out = answer;
+    let mut w = words::window_at(start, position, length);
+    let walk = walks::parse_rep_layout(bytes, &mut w, records);
+    *out = words::of_walk(walk, w);
 }
 
 #[unsafe(no_mangle)]
@@ -38,13 +38,9 @@ pub extern "C" fn gritwheel_parse_rep_layout_content_block(
     ensures { let walked = parse_rep_layout true bytes.now records.old (window_at start position length) in
         (out.new ≡ walk_words walked) × (records.new ≡ walked.places) }
 {
-    let walk = walks::parse_rep_layout_content_block(
-        bytes,
-        words::window_at(start, position, length),
-        records,
-    );
-    let answer = words::of_walk(walk);
-    *out = answer;
+    let mut w = words::window_at(start, position, length);
+    let walk = walks::parse_rep_layout_content_block(bytes, &mut w, records);
+    *out = words::of_walk(walk, w);
 }
 
 #[unsafe(no_mangle)]
@@ -60,12 +56,7 @@ pub extern "C" fn gritwheel_parse_class_net_cache(
     ensures { let walked = parse_class_net_cache function_count bytes.now records.old (window_at start position length) in
         (out.new ≡ walk_words walked) × (records.new ≡ walked.places) }
 {
-    let walk = walks::parse_class_net_cache(
-        bytes,
-        words::window_at(start, position, length),
-        function_count,
-        records,
-    );
-    let answer = words::of_walk(walk);
-    *out = answer;
+    let mut w = words::window_at(start, position, length);
+    let walk = walks::parse_class_net_cache(bytes, &mut w, function_count, records);
+    *out = words::of_walk(walk, w);
 }

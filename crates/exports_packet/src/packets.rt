@@ -8,7 +8,7 @@ use crate::bunches;
 use crate::bunches::{BunchWords, ReaderWords};
 use bitio_window::PacketBit;
 use packet::packets;
-use packet_reading::RawPacketReader;
+use packet_reading::{RawPacketReader, ReaderColumns};
 
 pub fn gritwheel_with_max_channels(
     max_channels: usize,
@@ -31,8 +31,7 @@ pub fn gritwheel_with_max_channels(
         partial_sequences,
         partial_reliables,
     );
-    let answer = bunches::of_opened(opened);
-    *out = answer;
+    *out = bunches::of_opened(opened);
 }
 
 pub fn gritwheel_read_bunch(
@@ -56,21 +55,19 @@ pub fn gritwheel_read_bunch(
         let reply = read_bunch packet.now packet_id at (reader_of max_channels sequences partials) before in
         (out.new ≡ bunch_words reply) × (after ≡ reply.memory) }
 {
-    let read = packets::read_bunch(
-        packet,
-        packet_id,
-        PacketBit(at),
-        RawPacketReader {
-            max_channels,
-            live_sequences: sequences,
-            live_partials: partials,
-        },
+    let mut cursor = PacketBit(at);
+    let mut reader = RawPacketReader {
+        max_channels,
+        live_sequences: sequences,
+        live_partials: partials,
+    };
+    let mut columns = ReaderColumns {
         sequence_channels,
         sequence_numbers,
         partial_channels,
         partial_sequences,
         partial_reliables,
-    );
-    let answer = bunches::of_read(read);
-    *out = answer;
+    };
+    let read = packets::read_bunch(packet, packet_id, &mut cursor, &mut reader, &mut columns);
+    *out = bunches::of_read(read, cursor, reader);
 }

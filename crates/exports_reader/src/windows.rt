@@ -12,16 +12,14 @@ use exports_words::words::Words;
 pub extern "C" fn gritwheel_reader_new(bytes: &[u8], out: &mut Words)
     ensures { out.new ≡ opened_words (new_window bytes.now) }
 {
-    let answer = words::of_opened(plain::new(bytes));
-    *out = answer;
+    *out = words::of_opened(plain::new(bytes));
 }
 
 #[unsafe(no_mangle)]
 pub extern "C" fn gritwheel_reader_with_bit_len(bytes: &[u8], bit_len: u64, out: &mut Words)
     ensures { out.new ≡ opened_words (with_bit_len bytes.now bit_len) }
 {
-    let answer = words::of_opened(plain::with_bit_len(bytes, bit_len));
-    *out = answer;
+    *out = words::of_opened(plain::with_bit_len(bytes, bit_len));
 }
 
 #[unsafe(no_mangle)]
@@ -59,8 +57,7 @@ pub extern "C" fn gritwheel_reader_bits_remaining(
     ensures { let w = window_at start position length in out.new ≡ count_words w (bits_remaining w) }
 {
     let w = words::window_at(start, position, length);
-    let answer = words::of_count(w, plain::bits_remaining(bytes, w));
-    *out = answer;
+    *out = words::of_count(w, plain::bits_remaining(bytes, w));
 }
 
 #[unsafe(no_mangle)]
@@ -86,12 +83,12 @@ pub extern "C" fn gritwheel_reader_sub_reader(
 )
     ensures { out.new ≡ words window_words (sub_reader count bytes.now (window_at start position length)) }
 {
-    let answer = words::of_sub(plain::sub_reader(
-        bytes,
-        words::window_at(start, position, length),
-        count,
-    ));
-    *out = answer;
+    *out = words::of_call(
+        start,
+        position,
+        length,
+        |w| plain::sub_reader(bytes, w, count),
+    );
 }
 
 #[unsafe(no_mangle)]
@@ -105,12 +102,12 @@ pub extern "C" fn gritwheel_reader_skip_bits(
 )
     ensures { out.new ≡ words none (skip_bits count bytes.now (window_at start position length)) }
 {
-    let answer = words::of_done(plain::skip_bits(
-        bytes,
-        words::window_at(start, position, length),
-        count,
-    ));
-    *out = answer;
+    *out = words::of_call(
+        start,
+        position,
+        length,
+        |w| plain::skip_bits(bytes, w, count),
+    );
 }
 
 #[unsafe(no_mangle)]
@@ -123,9 +120,5 @@ pub extern "C" fn gritwheel_reader_skip_remaining(
 )
     ensures { out.new ≡ words none (skip_remaining bytes.now (window_at start position length)) }
 {
-    let answer = words::of_done(plain::skip_remaining(
-        bytes,
-        words::window_at(start, position, length),
-    ));
-    *out = answer;
+    *out = words::of_call(start, position, length, |w| plain::skip_remaining(bytes, w));
 }

@@ -1,10 +1,14 @@
 -- An answer as seven words: 0 or the refusal's number; its values, or what the refusal returns, with zeros after them; the reader's window.
-use Rattle.std.specs.Prelude.{ℕ, Bool, List, [], ◌∷◌, ℤ, get_or, Float}
+use Rattle.std.specs.Prelude.{ℕ, Bool, List, [], ◌∷◌, ℤ, get_or, Float, Ok, Err, Result as Answered}
 use Rattle.std.specs.Int.{w32}
 use mir.Val.{of_z, bool_byte}
 use Rattle.bitio_window.specs.declared.Window.{Window}
+use Rattle.bitio_window.specs.declared.BitError.{BitError}
+use Rattle.bitio_window.specs.declared.Decoded.{Decoded as Pattern}
+use Rattle.bitio_window.specs.declared.Decoded.TheVariants.{Number, NoNumber}
 use Rattle.bitio_window.specs.Refusals.{Refusal}
 use Rattle.bitio_window.specs.Parse.{Answer, got, refused, Result, value, refusal}
+use Rattle.bitio_window.specs.Answers.{decoded_of}
 use Rattle.bitio_window.specs.Windows.{window_at}
 use Rattle.bitio_bits.specs.Floats.{Decoded, number, no_number}
 
@@ -51,6 +55,9 @@ abbrev pub pattern : Decoded → List ℕ
 pattern (number x) = []
 pattern (no_number b) = 1 ∷ b ∷ []
 
+abbrev pub pattern_words : Pattern Float ℕ → List ℕ
+pattern_words p = pattern (decoded_of p)
+
 abbrev pub float_left : Float → Decoded → Float
 float_left before (number x) = x
 float_left before (no_number b) = before
@@ -58,3 +65,9 @@ float_left before (no_number b) = before
 unfoldable pub float : Float → Answer Decoded → Float
 float before (got x w) = float_left before x
 float before (refused r w) = before
+
+-- the same of what the code's read answers
+abbrev pub number_left : {N B : Type 0} → N → Answered (Pattern N B) BitError → N
+number_left before (Ok (Number x)) = x
+number_left before (Ok (NoNumber b)) = before
+number_left before (Err e) = before

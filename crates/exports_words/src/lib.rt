@@ -2,4 +2,5 @@
 // (specs/Walks.antt).
 #![tactic(auto)]
 
+pub mod values;
 pub mod words;

@@ -1,8 +1,7 @@
 -- A writer's answer as three words, and the header that a call is handed in its parts.
-use Rattle.std.specs.Prelude.{ℕ, Bool, false, cond, List, [], ◌∷◌, pos, get_or}
+use Rattle.std.specs.Prelude.{ℕ, Bool, false, cond, List, [], ◌∷◌, pos, get_or, None}
 use Rattle.bitio_window.specs.Parse.{Result, value, refusal}
 use Rattle.types.specs.declared.ChannelCloseReason.{ChannelCloseReason}
-use Rattle.types.specs.declared.PartialSequenceKind.{PartialSequenceKind}
 use Rattle.types.specs.declared.RawBunchHeader.{RawBunchHeader}
 
 unfoldable pub written_words : Result ℕ → List ℕ
@@ -33,7 +32,7 @@ written_header channel opens closes dormant dormancy paused reliable partial ini
       payload_bit_count = 0;
       payload_bit_offset = 0;
       has_partial_error = false;
-      partial_error_kind = PartialSequenceKind.None;
+      partial_error_kind = None;
       is_partial_completed = false;
       has_channel_limit_error = false;
     }

@@ -4,8 +4,10 @@ ghost use Rattle.bitio_window.specs.Parse.{refusal};
 ghost use Rattle.writer.specs.Answers.{write_paper, of_written};
 ghost use Rattle.exports_writer.specs.Words.{written_words};
 
-use writer::{WriteError, Written};
+use bitio_window::PacketBit;
+use writer::WriteError;
 
+// Numbers for kinds, since C reads them (include/gritwheel.h).
 pub type WrittenWords = [u64; 3];
 
 fn refused(e: WriteError) -> WrittenWords
@@ -23,11 +25,12 @@ fn refused(e: WriteError) -> WrittenWords
     }
 }
 
-pub fn of_written(w: Written) -> WrittenWords
+#[tactic(auto, unfolding(crate::specs::Words::written_words))]
+pub fn of_written(w: Result<PacketBit, WriteError>) -> WrittenWords
     ensures { result ≡ written_words (of_written w) }
 {
     match w {
-        Written::To(bit) => [0, bit.0, 0],
-        Written::Refused(e) => refused(e),
+        Ok(bit) => [0, bit.0, 0],
+        Err(e) => refused(e),
     }
 }

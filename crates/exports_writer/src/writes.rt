@@ -6,16 +6,17 @@ ghost use Rattle.exports_writer.specs.Words.{written_words, reason_if, written_h
 use crate::words;
 use crate::words::WrittenWords;
 use bitio_window::PacketBit;
-use types::{ChannelCloseReason, PartialSequenceKind, RawBunchHeader};
+use types::{ChannelCloseReason, RawBunchHeader};
 use writer::writing;
 
 fn reason(dormancy: bool) -> ChannelCloseReason
     ensures { result ≡ reason_if dormancy }
 {
     if dormancy {
-        return ChannelCloseReason::Dormancy;
+        ChannelCloseReason::Dormancy
+    } else {
+        ChannelCloseReason::Destroyed
     }
-    ChannelCloseReason::Destroyed
 }
 
 // The header in the parts of it that are written or judged; `dormancy` is its close reason.
@@ -62,13 +63,11 @@ pub extern "C" fn gritwheel_write_bunch(
         payload_bit_count: 0,
         payload_bit_offset: 0,
         has_partial_error: false,
-        partial_error_kind: PartialSequenceKind::None,
+        partial_error_kind: None,
         is_partial_completed: false,
         has_channel_limit_error: false,
     };
-    let written = writing::write_bunch(header, payload, count, packet, PacketBit(at));
-    let answer = words::of_written(written);
-    *out = answer;
+    *out = words::of_written(writing::write_bunch(header, payload, count, packet, PacketBit(at)));
 }
 
 #[unsafe(no_mangle)]
@@ -76,7 +75,5 @@ pub extern "C" fn gritwheel_close_packet(packet: &mut [u8], at: u64, out: &mut W
     ensures { let reply = close_packet packet.old at in
         (out.new ≡ written_words reply.answer) × (packet.new ≡ reply.packet) }
 {
-    let written = writing::close_packet(packet, PacketBit(at));
-    let answer = words::of_written(written);
-    *out = answer;
+    *out = words::of_written(writing::close_packet(packet, PacketBit(at)));
 }

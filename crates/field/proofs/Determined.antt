@@ -4,6 +4,7 @@ use mathlib.Core.Path.{◌≡◌, refl, ap, sym, ◌∙◌}
 use mathlib.Core.Bool.{cond}
 use mathlib.Core.List.{List}
 use lib.Dec.{eqb}
+use Rattle.std.specs.Prelude.{Result, Ok, Err}
 use Rattle.bitio_window.specs.declared.Window.{Window}
 use Rattle.bitio_window.specs.declared.BitError.{BitError}
 use Rattle.bitio_window.specs.declared.BitError.TheVariants.{Eof, MalformedIntPacked, IntPackedOverflow, InvalidSerializedIntMax, InvalidBitLength, InvalidWidth, DataTooLong}
@@ -37,23 +38,32 @@ unfield_paper (FieldError.RecordListFull p) = refl
 unfield_paper FieldError.UnresolvedFunctionCount = refl
 
 -- an answer and the window after it, read back
-abbrev back : Answer W.Stop → Stop × Window
-back (got W.ended w) = (Stop.Ended, w)
-back (got (W.tail n) w) = (Stop.ClassNetCacheTail n, w)
-back (got (W.abandoned n) w) = (Stop.Abandoned n, w)
-back (refused r w) = (Stop.Refused (unfield r), w)
+abbrev back : Answer W.Stop → Result Stop FieldError × Window
+back (got W.ended w) = (Ok Stop.Ended, w)
+back (got (W.tail n) w) = (Ok (Stop.ClassNetCacheTail n), w)
+back (got (W.abandoned n) w) = (Ok (Stop.Abandoned n), w)
+back (refused r w) = (Err (unfield r), w)
 
-stop_back : (s : Stop) (w : Window) → back (stop_answer s w) ≡ (s, w)
-stop_back Stop.Ended w = refl
-stop_back (Stop.ClassNetCacheTail n) w = refl
-stop_back (Stop.Abandoned n) w = refl
-stop_back (Stop.Refused e) w = ap (λ (x : FieldError). (Stop.Refused x, w)) (unfield_paper e)
+stop_back : (s : Result Stop FieldError) (w : Window) → back (stop_answer s w) ≡ (s, w)
+stop_back (Ok Stop.Ended) w = refl
+stop_back (Ok (Stop.ClassNetCacheTail n)) w = refl
+stop_back (Ok (Stop.Abandoned n)) w = refl
+stop_back (Err e) w = ap (λ (x : FieldError). (Err x, w)) (unfield_paper e)
 
-module _ (r s : Walk) (p q : List (List ℕ)) (e : of_walk r p ≡ of_walk s q) where
+module _ (r s : Walk) (u v : Window) (p q : List (List ℕ)) (e : of_walk r u p ≡ of_walk s v q) where
+  stops : ◌≡◌ {A = Result Stop FieldError × Window} (r.stop, u) (s.stop, v)
+  stops = sym (stop_back r.stop u) ∙ ap (λ (x : W.Walked). back x.answer) e ∙ stop_back s.stop v
+
+  counts : r.count ≡ s.count
+  counts = ap (λ (x : W.Walked). x.count) e
+
   pub walk_determined : r ≡ s
   walk_determined =
-      ap (λ (x : (Stop × Window) × ℕ). record { stop = x.0.0; count = x.1; next = x.0.1 })
-      (sym (ap (λ (x : Stop × Window). (x, r.count)) (stop_back r.stop r.next)) ∙ ap (λ (x : W.Walked). (back x.answer, x.count)) e ∙ ap (λ (x : Stop × Window). (x, s.count)) (stop_back s.stop s.next))
+      ap (λ (x : Result Stop FieldError × Window). record { stop = x.0; count = r.count }) stops ∙ ap (λ (n : ℕ). record { stop = s.stop; count = n }) counts
+
+  -- where the walk leaves the reader
+  pub reader_determined : u ≡ v
+  reader_determined = ap (λ (x : Result Stop FieldError × Window). x.1) stops
 
   pub places_determined : p ≡ q
   places_determined = ap (λ (x : W.Walked). x.places) e

@@ -3,7 +3,7 @@ use mathlib.Core.Path.{◌≡◌, refl, sym, ◌∙◌, ap}
 use mathlib.Core.List.{List, [], ◌∷◌, ◌++◌, map, map-append}
 use Prim.Native.Nat.{ℕ, suc, ◌≤◌, ◌<◌}
 use native.Mathlib.Omega.{arith}
-use lib.ListN.{length, get_or, set, take, drop, length-append, length-drop, length-map}
+use lib.ListN.{length, get_or, set, take, drop, length-map}
 use lib.Seq.{length-take-le, take-suc, drop-cons, set_at, append_snoc}
 use Rattle.bitio_window.specs.declared.Window.{Window}
 use Rattle.field_walking.specs.declared.Walk.{Walk}
@@ -23,10 +23,6 @@ module _ (ps : List (List ℕ)) (rs : List FieldRecord) where
     front : length (map record_of (take n ps)) ≡ n
     front = length-map (take n ps) record_of ∙ length-take-le n ps h
 
-    pub length_filled : n ≤ length rs → length (filled n ps rs) ≡ length rs
-    unfolding filled
-    length_filled f = simp (length-append, length-drop, front) (omega arith)
-
   pub filled_next : (i : ℕ) → i < length ps → i < length rs → set (filled i ps rs) i (record_of (get_or ps i [])) ≡ filled (suc i) ps rs
   unfolding filled
   filled_next i h f =
@@ -37,8 +33,8 @@ module _ (ps : List (List ℕ)) (rs : List FieldRecord) where
       ∙ sym (ap (λ (l : List FieldRecord). l ++ drop (suc i) rs) more ∙ append_snoc (map record_of (take i ps)) r (drop (suc i) rs))
 
 -- the numbers' walk and the records filled of it, as one meaning
-pub lists : (s : Stream) (d : List ℕ) (rs : List FieldRecord) (ps : List (List ℕ)) (w : Window) (r : Walk) (rs' : List FieldRecord) (ps' : List (List ℕ)) → of_walk r ps' ≡ walked_into (length rs) s d ps w
-    → rs' ≡ filled r.count ps' rs → of_lists r rs' ps' ≡ listed_records s d rs ps w
+pub lists : (s : Stream) (d : List ℕ) (rs : List FieldRecord) (ps : List (List ℕ)) (w : Window) (r : Walk) (u : Window) (rs' : List FieldRecord) (ps' : List (List ℕ)) → of_walk r u ps' ≡ walked_into (length rs) s d ps w
+    → rs' ≡ filled r.count ps' rs → of_lists r u rs' ps' ≡ listed_records s d rs ps w
 unfolding listed_records
-lists s d rs ps w r rs' ps' e f =
-    ap (λ (l : List FieldRecord). of_lists r l ps') f ∙ ap (λ (x : Walked). record { records = filled x.count x.places rs; walked = x }) e
+lists s d rs ps w r u rs' ps' e f =
+    ap (λ (l : List FieldRecord). of_lists r u l ps') f ∙ ap (λ (x : Walked). record { records = filled x.count x.places rs; walked = x }) e

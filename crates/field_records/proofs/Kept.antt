@@ -91,8 +91,8 @@ module _ (n : ℕ) (ps : List (List ℕ)) where
       go (yes h) = let e : min n (length ps) ≡ n = omega arith in rw e
       go (no h) = let e : min n (length ps) ≡ length ps = omega arith in rw (e, drop-length, drop_of_length-le ps {i = n} (omega arith))
 
-  module _ (s : Stream) (d : List ℕ) (w : Window) (r : Walk) (qs : List (List ℕ)) {m : ℕ} (e : m ≡ min n (length ps)) (h : of_walk r qs ≡ parse s d (take m ps) w) where
-    pub walks_into : of_walk r (qs ++ drop m ps) ≡ walked_into n s d ps w
+  module _ (s : Stream) (d : List ℕ) (w : Window) (r : Walk) (u : Window) (qs : List (List ℕ)) {m : ℕ} (e : m ≡ min n (length ps)) (h : of_walk r u qs ≡ parse s d (take m ps) w) where
+    pub walks_into : of_walk r u (qs ++ drop m ps) ≡ walked_into n s d ps w
     unfolding walked_into
     walks_into =
         ap (λ (x : Walked). record { places = x.places ++ drop m ps; count = x.count; answer = x.answer }) h
@@ -106,5 +106,5 @@ module _ (n : ℕ) (ps : List (List ℕ)) where
           fits = λ i f. rw (get_or-append qs (drop m ps) [] i (omega (arith, f, k.few, k.size))) (k.fits i f);
         }
       where
-        k : Kept (take m ps) (of_walk r qs)
+        k : Kept (take m ps) (of_walk r u qs)
         k = rw h (kept_parse d (take m ps) s w)

@@ -34,5 +34,5 @@ listed_records s d rs ps w =
     record { records = filled x.count x.places rs; walked = x }
 
 -- an answer of the code in these terms
-abbrev pub of_lists : Walk → List FieldRecord → List (List ℕ) → ListedRecords
-of_lists r rs ps = record { records = rs; walked = of_walk r ps }
+abbrev pub of_lists : Walk → Window → List FieldRecord → List (List ℕ) → ListedRecords
+of_lists r u rs ps = record { records = rs; walked = of_walk r u ps }

@@ -6,7 +6,7 @@ pub mod walks;
 
 // Which records a walk reads, and what becomes of the bits after a RepLayout's end: skipped, or retained for the class net
 // cache.
-#[derive(Clone, Copy)]
+#[derive(Clone, Copy, Debug, PartialEq, Eq)]
 pub enum Stream {
     RepLayout,
     RepLayoutContentBlock,

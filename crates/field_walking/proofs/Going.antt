@@ -1,13 +1,10 @@
 -- The walk while it goes: what the list's first k places hold, and the rest of the walk.
 use mathlib.Core.Path.{◌≡◌, refl, sym, ap, ◌∙◌}
-use mathlib.Core.Bool.{true, false}
 use mathlib.Core.List.{List, [], ◌++◌}
 use Prim.Native.Nat.{ℕ, suc, ◌+◌, ◌-◌, ◌≤◌, ◌<◌}
 use native.Mathlib.Omega.{arith}
-use lib.Dec.{ltb}
 use lib.ListN.{length, set, take, drop, length-set, take-append-drop, drop_of_length-le}
-use lib.Seq.{drop-cons, append_snoc, set_out, drop-set-lt, take-suc-set}
-use borrow.Author.Tests.{ltb-true, ltb-false}
+use lib.Seq.{drop-cons, append_snoc, drop-set-lt, take-suc-set}
 use Rattle.bitio_window.specs.declared.Window.{Window}
 use Rattle.bitio_window.specs.Refusals.{place_of, list_full}
 use Rattle.bitio_window.specs.Parse.{Answer, got, refused, Parse}
@@ -47,17 +44,13 @@ module _ {look : Parse Looked} {d : List ℕ} {w₀ : Window} {ps₀ ps : List (
       sym p ∙ ap (before (take k ps) k) (sym q) ∙ g.whole
 
   -- a record that finds no place leaves the list as it is
-  pub stops_full : {r : FieldRecord} {u : Window} (n : List ℕ) {qs : List (List ℕ)} → look d w ≡ got (finds r) u → ltb k (length ps) ≡ false → qs ≡ set ps k n
-      → record { places = qs; count = k; answer = refused (list_full (place_of w)) w } ≡ walked look d ps₀ w₀
-  stops_full n h f e =
-      let p : length ps ≤ k = ltb-false k (length ps) f in
-      rw (e ∙ set_out ps k n p) (stops h (rw (drop_of_length-le ps p)))
+  pub stops_full : {r : FieldRecord} {u : Window} → look d w ≡ got (finds r) u → length ps ≤ k → record { places = ps; count = k; answer = refused (list_full (place_of w)) w } ≡ walked look d ps₀ w₀
+  stops_full h p = stops h (rw (drop_of_length-le ps p))
 
   -- a record that has a place
-  pub goes_on : {r : FieldRecord} {u : Window} {qs : List (List ℕ)} → look d w ≡ got (finds r) u → ltb k (length ps) ≡ true → qs ≡ set ps k (record_numbers r) → On 8 w u → Sound d u → Going look d w₀ ps₀ qs u (k + 1)
+  pub goes_on : {r : FieldRecord} {u : Window} → look d w ≡ got (finds r) u → k < length ps → On 8 w u → Sound d u → Going look d w₀ ps₀ (set ps k (record_numbers r)) u (k + 1)
   unfolding walk
-  goes_on {r} {u} h t e o s =
-      let f : k < length ps = ltb-true k (length ps) t in
+  goes_on {r} {u} h f o s =
       let room : suc k + bits_left u ≤ bits_left w₀ = omega (arith, g.room, on_less o s) in
       let n : bits_left w₀ - k ≡ suc (bits_left w₀ - suc k) = omega (arith, room) in
       let x = walk look (suc (bits_left w₀ - suc k)) d (drop (suc k) ps) u in
@@ -69,7 +62,7 @@ module _ {look : Parse Looked} {d : List ℕ} {w₀ : Window} {ps₀ ps : List (
       rw (take-suc-set ps k (record_numbers r) f, drop-set-lt (suc k) ps k (record_numbers r) (omega arith), append_snoc (take k ps) (record_numbers r) x.places) (same refl (omega arith))
       in
       let q : k + 1 ≡ suc k = omega arith in
-      rw (e, q)
+      rw q
       (record {
         sound = s;
         room = room;

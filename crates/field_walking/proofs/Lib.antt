@@ -1,3 +1,4 @@
+pub mod Handed
 pub mod Records
 pub mod Moves
 pub mod Going

@@ -1,27 +1,15 @@
 -- One record, by what its reads gave.
-use mathlib.Core.Path.{◌≡◌, sym, ap, ◌∙◌}
+use mathlib.Core.Path.{◌≡◌}
 use mathlib.Core.List.{List}
 use Prim.Native.Nat.{ℕ, ◌-◌, ◌≤◌, ◌<◌, max}
 use borrow.Author.Tests.{lt-ltb, le-ltb, le-leb, lt-leb, eq-eqb, ne_eqb}
 use Rattle.bitio_window.specs.Places.{packet_bit}
 use Rattle.bitio_window.specs.declared.Window.{Window}
-use Rattle.bitio_window.specs.declared.BitError.{BitError}
-use Rattle.bitio_window.specs.declared.U32.{U32}
-use Rattle.bitio_window.specs.declared.U32Read.{U32Read}
-use Rattle.bitio_window.specs.Refusals.{Refusal, paper}
-use Rattle.bitio_window.specs.Answers.{u32_answer, of_u32}
-use Rattle.bitio_window.specs.Parse.{Answer, got, refused, ◌>>=◌, give, read_if, advanced}
+use Rattle.bitio_window.specs.Refusals.{Refusal}
+use Rattle.bitio_window.specs.Parse.{got, refused, ◌>>=◌, give, read_if, advanced}
 use Rattle.bitio_window.specs.Numbers.{packed, serialized}
 use Rattle.bitio_window.proofs.Rows.{then_refused}
 use Rattle.field_walking.specs.Records.{ends, abandons, finds, remaining, payload, counted, rep_layout, call, class_net_cache}
-
--- a number's read, by the case that the match found
-module _ (r : U32Read) {x : Answer ℕ} (e : of_u32 r ≡ x) where
-  pub told_value : {v : ℕ} → r.answer ≡ U32.Value v → x ≡ got v r.next
-  told_value h = sym e ∙ ap (λ (a : U32). u32_answer a r.next) h
-
-  pub told_refusal : {f : BitError} → r.answer ≡ U32.Refused f → x ≡ refused (paper f) r.next
-  told_refusal h = sym e ∙ ap (λ (a : U32). u32_answer a r.next) h
 
 module _ (d : List ℕ) (w : Window) {u : Window} where
   module _ (h : ℕ) where

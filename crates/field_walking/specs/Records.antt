@@ -2,13 +2,11 @@
 use Rattle.std.specs.Prelude.{ℕ, ◌-◌, max, not, ltb, leb, eqb}
 use Rattle.bitio_window.specs.declared.Window.{Window}
 use Rattle.bitio_window.specs.Places.{packet_bit}
-use Rattle.bitio_window.specs.Refusals.{paper}
-use Rattle.bitio_window.specs.Parse.{Answer, got, refused, Parse, ◌>>=◌, read_if, advanced}
+use Rattle.bitio_window.specs.Parse.{got, Parse, ◌>>=◌, read_if, advanced}
 use Rattle.bitio_window.specs.Numbers.{packed, serialized}
 use Rattle.field_walking.specs.declared.FieldRecord.{FieldRecord}
 use Rattle.field_walking.specs.declared.inner.RecordKind.{RecordKind}
 use Rattle.field_walking.specs.declared.inner.Step.{Step}
-use Rattle.field_walking.specs.declared.inner.StepRead.{StepRead}
 
 -- "A record holds its handle, its bit count and its payload's start, counted both ways."
 pub data Looked : Type 0 where
@@ -57,11 +55,7 @@ look RecordKind.RepLayout = rep_layout
 look (RecordKind.ClassNetCache count) = class_net_cache count
 
 -- a step of the code in these terms
-abbrev pub looked_at : Step → Window → Answer Looked
-looked_at Step.Ends w = got ends w
-looked_at Step.Abandons w = got abandons w
-looked_at (Step.Found r) w = got (finds r) w
-looked_at (Step.Refused e) w = refused (paper e) w
-
-abbrev pub of_step : StepRead → Answer Looked
-of_step r = looked_at r.answer r.next
+abbrev pub looked : Step → Looked
+looked Step.Ends = ends
+looked Step.Abandons = abandons
+looked (Step.Found r) = finds r

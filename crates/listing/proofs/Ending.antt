@@ -1,56 +1,8 @@
--- What a flush makes of an ending; a word's bytes copied one after another, and no text at all.
-use Rattle.std.proofs.Common.{◌≡◌, ℕ, ◌+◌, ◌<◌, ◌≤◌, Bool, true, false, cond, eqb, List, [], ◌∷◌, ◌++◌, length, get_or, take, set, sym, refl, ap, ◌∙◌, add-zero, zero-add, add-one, arith, length-set, length-take-le, take-suc}
+-- No text at all.
+use Rattle.std.proofs.Common.{ℕ, List, [], sym, refl, add-zero, arith}
 use Rattle.log_lines.specs.Texts.{written}
 use Rattle.log_lines.specs.Puts.{Put}
-use Rattle.log_lines.proofs.Texts.{written_append}
-use Rattle.listing.specs.declared.inner.outcome.Outcome.{Outcome}
-use Rattle.listing.specs.Outcomes.{after_flush, Concluded}
-
-pub as_it_was : (o : Outcome) → Concluded o o
-as_it_was Outcome.GoesOn = refl
-as_it_was (Outcome.Ended n) = refl
-as_it_was (Outcome.CutAt i) = refl
-as_it_was (Outcome.OtherVersion b) = refl
-as_it_was (Outcome.ReadFailed at error) = refl
-as_it_was (Outcome.WriteFailed at error) = tt
-
--- whatever was flushed, the ending is as it was or a write failed
-pub flushed : (o : Outcome) (used out written error : ℕ) {r : Outcome} → r ≡ after_flush o used out written error → Concluded o r
-flushed o used out written error q = rw q (go (eqb out used))
-  where
-    go : (t : Bool) → Concluded o (cond t o (Outcome.WriteFailed written error))
-    go true = as_it_was o
-    go false = tt
 
 pub no_text : {m : ℕ} (out : List ℕ) (at : ℕ) → Put m out at [] out at
 unfolding written
 no_text out at = record { bytes = refl; ends = sym (add-zero at); within = omega arith; size = refl }
-
--- i bytes of a text stand at the front
-pub record Copied (out₀ text : List ℕ) (i : ℕ) (out : List ℕ) : Type 0 where
-  pub some : i ≤ length text
-  pub bytes : out ≡ written out₀ 0 (take i text)
-  pub size : length out ≡ length out₀
-
-pub begins : (out text : List ℕ) → Copied out text 0 out
-unfolding written
-begins out text = record { some = omega arith; bytes = refl; size = refl }
-
-module _ {out₀ text : List ℕ} {i : ℕ} {out : List ℕ} (c : Copied out₀ text i out) where
-  pub one_more : i < length text → Copied out₀ text (i + 1) (set out i (get_or text i 0))
-  unfolding written
-  one_more h =
-      let n : length (take i text) ≡ i = length-take-le i text (omega arith) in
-      let b = get_or text i 0 in
-      record {
-        some = omega arith;
-        bytes =
-            ap (λ (o : List ℕ). set o i b) c.bytes
-            ∙ ap (λ (k : ℕ). set (written out₀ 0 (take i text)) k b) (sym (zero-add (length (take i text)) ∙ n))
-            ∙ written_append (take i text) (b ∷ []) out₀ 0
-            ∙ ap (written out₀ 0) (sym (next i (omega arith)));
-        size = length-set out i b ∙ c.size;
-      }
-    where
-      next : (k : ℕ) → k < length text → take (k + 1) text ≡ take k text ++ (get_or text k 0 ∷ [])
-      next k g = rw (add-one k) (take-suc text k 0 g)

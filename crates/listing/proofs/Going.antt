@@ -1,45 +1,46 @@
 -- What holds at each turn of the loop over records, and where a record that is found lies.
-use Rattle.std.proofs.Common.{◌≡◌, ℕ, zero, suc, ◌+◌, ◌<◌, ◌≤◌, List, length, get_or, take, ℤ, sym, refl, ◌∙◌, arith, length-take-le}
-use Rattle.packet_log.specs.declared.Entry.{Entry}
-use Rattle.packet_log.specs.declared.Version.{Version}
-use Rattle.packet_log.specs.Log.{version_of, entry_at}
+use Rattle.std.proofs.Common.{◌≡◌, ℕ, zero, suc, ◌+◌, ◌<◌, ◌≤◌, List, length, get_or, take, Option, Some, Ok, Err, sym, ap, refl, ◌∙◌, arith, length-take-le}
+use Rattle.packet_log.specs.declared.Record.{Record}
+use Rattle.packet_log.specs.Log.{version_of, Entry, entry_at}
 use Rattle.packet_log.proofs.Steps.{within}
 use Rattle.listing.specs.declared.inner.input.Part.{Part}
 use Rattle.tables.specs.Columns.{ascending}
 use Rattle.packet_reading.specs.Memory.{ReaderMemory, reader_memory}
 use Rattle.packet_tracking.specs.Fits.{TableFits}
 use Rattle.packet_reading.specs.State.{TablesSound}
-use Rattle.listing.specs.Input.{InBuffer, Short}
+use Rattle.listing.specs.Input.{InBuffer, whole_at, Short}
 use Rattle.log_telling.specs.Turns.{PacketRoom}
-use Rattle.log_telling.proofs.Telling.{SameSizes}
 
-pub record Going (buffer₀ out₀ buffer out : List ℕ) (part : Part) (at used : ℕ) (m₀ m : ReaderMemory) (s p : ℕ) : Type 0 where
+pub record Going (buffer₀ out₀ buffer out : List ℕ) (part : Part) (at used : ℕ) (m : ReaderMemory) (s p : ℕ) : Type 0 where
   pub held : InBuffer buffer part
   pub place : at ≤ part.held
   pub room : PacketRoom out used
   pub in_size : length buffer ≡ length buffer₀
   pub out_size : length out ≡ length out₀
-  pub sizes : SameSizes m m₀
   pub state : TablesSound 4096 s p m
 
 pub record Lies (held start next : ℕ) : Type 0 where
   pub long : start ≤ next
   pub inside : next ≤ held
 
-pub lies : (b : List ℕ) (held at : ℕ) {id : ℤ} {start n next : ℕ} → held ≤ length b → entry_at (take held b) at ≡ Entry.Packet id start n next → Lies held start next
+whole : (e : Entry) {r : Record} → whole_at e ≡ Some r → e ≡ Ok (Some r)
+whole (Ok found) h = ap Ok h
+whole (Err c) h = cc
+
+pub lies : (b : List ℕ) (held at : ℕ) {r : Record} → held ≤ length b → whole_at (entry_at (take held b) at) ≡ Some r → Lies held r.start r.next
 lies b held at h e =
-    let w = within (take held b) at e in
+    let w = within (take held b) at (whole (entry_at (take held b) at) e) in
     record { long = omega (arith, w.follows); inside = omega (arith, w.inside, length-take-le held b h) }
 
-pub has_a_byte : (b : List ℕ) (held : ℕ) → version_of (take held b) ≡ Version.Ours → 1 ≤ held
+pub has_a_byte : (b : List ℕ) (held : ℕ) → version_of (take held b) ≡ Ok tt → 1 ≤ held
 unfolding version_of
-has_a_byte b zero e = let z : ◌≡◌ {A = ℕ} 0 1 = cc in absurd (omega arith)
+has_a_byte b zero e = cc
 has_a_byte b (suc n) e = omega arith
 
-pub short_packet : (d : List ℕ) → ((i : ℕ) → get_or d i 0 < 256) → (at : ℕ) {e : Entry} → e ≡ entry_at d at → Short e
+pub short_packet : (d : List ℕ) → ((i : ℕ) → get_or d i 0 < 256) → (at : ℕ) {found : Option Record} → found ≡ whole_at (entry_at d at) → Short found
 short_packet d byte at q =
     record {
-      short = λ r. let w = within d at (sym q ∙ r) in omega (arith, w.long, w.follows, byte at, byte (at + 1));
+      short = λ r. let w = within d at (whole (entry_at d at) (sym q ∙ r)) in omega (arith, w.long, w.follows, byte at, byte (at + 1));
     }
 
 none_fit : {ch : List ℕ} → 4096 ≡ length ch → TableFits 4096 0 ch

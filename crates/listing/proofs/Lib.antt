@@ -1,5 +1,5 @@
 pub mod Ending
 pub mod Known
-pub mod Sliding
 pub mod Going
 pub mod Example
+pub mod Writes

@@ -4,6 +4,7 @@
 ghost use Rattle.std.specs.Prelude.{◌≡◌, length};
 ghost use Rattle.types.specs.Types.{most_channels};
 
+use packet_reading::ReaderColumns;
 use types::MAX_ACTIVE_CHANNELS;
 
 mod inner;
@@ -37,17 +38,20 @@ fn main(rt: HostRuntime) {
     let mut partial_channels = column();
     let mut partial_sequences = column();
     let mut partial_reliables = column();
+    let mut columns = ReaderColumns {
+        sequence_channels: &mut sequence_channels,
+        sequence_numbers: &mut sequence_numbers,
+        partial_channels: &mut partial_channels,
+        partial_sequences: &mut partial_sequences,
+        partial_reliables: &mut partial_reliables,
+    };
     let ended = inner::run::list(
         &mut rt.stdin(),
         &mut rt.stdout(),
         &mut buffer,
         &mut out,
-        &mut sequence_channels,
-        &mut sequence_numbers,
-        &mut partial_channels,
-        &mut partial_sequences,
-        &mut partial_reliables,
+        &mut columns,
     );
     let outcome = ended.outcome;
-    inner::said::say(&mut rt.stderr(), outcome);
+    let _ = inner::said::say(&mut rt.stderr(), outcome);
 }

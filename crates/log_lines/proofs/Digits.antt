@@ -2,9 +2,8 @@
 use mathlib.Core.Path.{◌≡◌, refl, ap, sym}
 use mathlib.Core.Bool.{Bool, true, false, cond}
 use mathlib.Core.List.{List, [], ◌∷◌, ◌++◌}
-use Prim.Native.Nat.{ℕ, zero, suc, ◌+◌, ◌/◌, ◌^◌, ◌≤◌, ◌<◌}
+use Prim.Native.Nat.{ℕ, zero, suc, ◌+◌, ◌/◌, ◌≤◌, ◌<◌}
 use native.Mathlib.Omega.{arith}
-use native.Mathlib.Numerals.{unary_clauses}
 use borrow.Author.Tests.{eq-eqb, ne_eqb, eqb-false}
 use lib.Dec.{eqb}
 use lib.ListN.{length, length-append}
@@ -14,9 +13,6 @@ pub no_digits : (n : ℕ) → n ≤ 0 → digits n ≡ []
 unfolding digits_from
 no_digits zero h = refl
 no_digits (suc n) h = absurd (omega arith)
-
-pub none_of_zero : (n : ℕ) → n ≤ 0 → length (digits n) ≡ 0
-none_of_zero n h = ap length (no_digits n h)
 
 -- any bound that is not below the number gives the same
 bound : (k m n : ℕ) → n ≤ k → n ≤ m → digits_from k n ≡ digits_from m n
@@ -44,18 +40,3 @@ count_more n h = rw (one_more n h) (length-append (digits (n / 10)) (last_digit 
 pub count_all : (n : ℕ) → length (decimal n) ≡ length (digits (n / 10)) + 1
 unfolding decimal
 count_all n = length-append (digits (n / 10)) (last_digit n ∷ [])
-
-few : (k m n : ℕ) → n < 10 ^ m → length (digits_from k n) ≤ m
-unfolding digits_from
-few zero m n h = omega arith
-few (suc k) zero n h = rw (eq-eqb n 0 (omega arith)) (omega arith)
-few (suc k) (suc m) n h = go (eqb n 0) (few k m (n / 10) (omega (arith, simp unary_clauses at h)))
-  where
-    go : (t : Bool) → length (digits_from k (n / 10)) ≤ m → length (cond t [] (digits_from k (n / 10) ++ (last_digit n ∷ []))) ≤ suc m
-    go true f = omega arith
-    go false f = simp length-append (omega arith)
-
-pub short : (m n : ℕ) → n < 10 ^ suc m → length (decimal n) ≤ suc m
-short m n h =
-    let f : length (digits (n / 10)) ≤ m = few (n / 10) m (n / 10) (omega (arith, simp unary_clauses at h)) in
-    omega (arith, count_all n)

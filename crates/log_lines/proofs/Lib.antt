@@ -1,7 +1,6 @@
 pub mod Texts
 pub mod Digits
-pub mod Back
-pub mod Signs
+pub mod Printed
 pub mod Values
 pub mod Halves
 pub mod Example

@@ -1,12 +1,14 @@
 -- Texts one after another: a text and the next are one text.
-use mathlib.Core.Path.{◌≡◌, refl, ap, ◌∙◌}
+use borrow.Rule.Slice.PartMut.{put_mid}
+use mathlib.Core.Path.{◌≡◌, refl, ap, sym, ◌∙◌}
 use mathlib.Core.List.{List, [], ◌∷◌, ◌++◌}
 use Prim.Native.Nat.{ℕ, suc, ◌+◌, ◌≤◌}
 use native.Mathlib.Nat.{add-zero}
 use native.Mathlib.Omega.{arith}
 use lib.ListN.{length, set, take, drop, length-set, length-append}
-use lib.Seq.{set_comm, sets, sets-eq}
+use lib.Seq.{set_comm, sets, sets-eq, paste, length-paste, take-length}
 use native.Mathlib.Numerals.{add-one}
+use Rattle.std.proofs.lemmas.Slice.{put_mid-paste}
 use Rattle.log_lines.specs.Texts.{written}
 use Rattle.log_lines.specs.Puts.{Put}
 
@@ -39,6 +41,18 @@ written_is text out at h = as_sets text out at ∙ sets-eq text out at h
 pub one_byte : (out : List ℕ) (at b : ℕ) → Put 1 out at (b ∷ []) (set out at b) (at + 1)
 unfolding written
 one_byte out at b = record { bytes = refl; ends = refl; within = omega arith; size = length-set out at b }
+
+-- a part of the slice that a text is copied over
+pub copied : (out : List ℕ) (at n : ℕ) (text : List ℕ) {part : List ℕ} → at + length text ≤ length out → n ≡ length text → part ≡ text
+    → Put (length text) out at text (put_mid at n out part) (at + length text)
+copied out at n text {part} h k e =
+    let p : put_mid at n out part ≡ paste out at text (length text) = put_mid-paste at n out part text (length text) e (sym k) refl in
+    record {
+      bytes = p ∙ ap (λ (t : List ℕ). take at out ++ t ++ drop (at + length text) out) (take-length text) ∙ sym (written_is text out at h);
+      ends = refl;
+      within = omega arith;
+      size = ap length p ∙ length-paste out at text (length text) h (omega arith);
+    }
 
 module _ {out : List ℕ} {at : ℕ} {s : List ℕ} {o : List ℕ} {e m : ℕ} (p : Put m out at s o e) where
   pub then : {n f : ℕ} {t q : List ℕ} → Put n o e t q f → Put (m + n) out at (s ++ t) q f

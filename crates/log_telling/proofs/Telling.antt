@@ -1,28 +1,34 @@
 -- A packet's listing turn by turn: what is written and what is still to come make up its text.
-use mathlib.Core.Path.{◌≡◌, refl, sym, ap, subst, ◌∙◌}
+use mathlib.Core.Path.{◌≡◌, refl, sym, ap, ap₂, subst, ◌∙◌}
 use mathlib.Core.Bool.{Bool, true, false, cond}
 use mathlib.Core.List.{List, [], ◌++◌}
+use mathlib.Core.Logic.{◌⊎◌, inl, inr}
 use Prim.Native.Nat.{ℕ, zero, suc, ◌+◌, ◌*◌, ◌-◌, ◌≤◌, ◌<◌}
 use native.Mathlib.Nat.{add-zero}
 use native.Mathlib.Omega.{arith}
 use lib.IntN.{ℤ}
 use lib.ListN.{length, length-append}
 use mir.Syntax.{w32}
-use mir.Val.{of_z, bool_byte}
-use Rattle.bitio_window.specs.Parse.{value}
+use mir.Val.{of_z}
+use Rattle.types.specs.declared.RawBunchHeader.{RawBunchHeader}
+use Rattle.bitio_window.specs.declared.PacketBit.{PacketBit}
+use Rattle.bitio_window.specs.declared.Window.{Window}
+use Rattle.bitio_window.specs.Parse.{Result, value, refusal}
+use Rattle.packet_reading.specs.declared.RawPacketReader.{RawPacketReader}
 use Rattle.packet_reading.specs.declared.Bunch.{Bunch}
 use Rattle.packet_reading.specs.declared.BunchRead.{BunchRead}
 use Rattle.packet_reading.specs.Packet.{ReaderTables, Outcome, bunch, end, malformed, Read, data_bits, next_bunch}
-use Rattle.packet_reading.specs.Memory.{ReaderMemory, tables_of, tables_laid_in}
-use Rattle.packet_reading.specs.State.{TablesSound}
-use Rattle.packet_reading.specs.Answers.{ReadReply, bunch_answer, of_read, read_reply}
+use Rattle.packet_reading.specs.Memory.{ReaderMemory, tables_of, tables_laid_in, reader_tables}
+use Rattle.packet_reading.specs.State.{ReaderSound}
+use Rattle.packet_reading.specs.Answers.{ReadReply, bunch_outcome, of_read, read_reply}
 use Rattle.packet_tracking.proofs.Kept.{sequences_back, partials_back}
+use Rattle.log_lines.specs.Lines.{bunch_line}
 use Rattle.log_lines.specs.Texts.{written}
 use Rattle.log_lines.specs.Puts.{Put}
 use Rattle.log_lines.proofs.Texts.{written_append}
 use Rattle.log_telling.specs.declared.inner.Sums.{Sums}
-use Rattle.log_telling.specs.Listed.{outcome_text, goes_on, sums, raised, raised_by, ListedPacket, with_line, closing, closed, read_at, listed_from, listed_packet}
-use Rattle.log_telling.specs.Turns.{answer_text, answer_goes_on, Few, packet_room, TellsPacket}
+use Rattle.log_telling.specs.Listed.{line_of, outcome_text, goes_on, sums, raised, raised_by, ListedPacket, with_line, closing, closed, read_at, listed_from, listed_packet}
+use Rattle.log_telling.specs.Turns.{Few, packet_room, TellsPacket}
 use Rattle.log_telling.proofs.Moving.{Moves, bits_most, moves}
 
 -- what is laid is read back
@@ -30,30 +36,23 @@ pub laid_back : (t : ReaderTables) (m : ReaderMemory) → tables_of (length t.se
 unfolding tables_of tables_laid_in
 laid_back t m = rw (sequences_back t.sequences m.sequence_channels m.sequence_numbers, partials_back t.partials m.partial_channels m.partial_sequences m.partial_reliables)
 
+outcome_in : Result Outcome → Outcome
+outcome_in (value o) = o
+outcome_in (refusal r) = end
+
 -- what a reading call's answer says, field by field
-module _ (r : BunchRead) (n : ReaderMemory) (x : Read) (m : ReaderMemory) (e : of_read r n ≡ read_reply x m) where
-  outcome_of : (a : Bunch) (o : Outcome) → bunch_answer a ≡ value o → (answer_text a ≡ outcome_text o) × (answer_goes_on a ≡ goes_on o)
-  outcome_of (Bunch.Read h w) (bunch h' w') q = (let z : h ≡ h' = cc in rw z, refl)
-  outcome_of (Bunch.Read h w) end q = absurd (let z : ◌≡◌ {A = ℕ} 0 1 = cc in omega arith)
-  outcome_of (Bunch.Read h w) malformed q = absurd (let z : ◌≡◌ {A = ℕ} 0 1 = cc in omega arith)
-  outcome_of Bunch.End (bunch h' w') q = absurd (let z : ◌≡◌ {A = ℕ} 0 1 = cc in omega arith)
-  outcome_of Bunch.End end q = (refl, refl)
-  outcome_of Bunch.End malformed q = (refl, refl)
-  outcome_of Bunch.Malformed (bunch h' w') q = absurd (let z : ◌≡◌ {A = ℕ} 0 1 = cc in omega arith)
-  outcome_of Bunch.Malformed end q = (refl, refl)
-  outcome_of Bunch.Malformed malformed q = (refl, refl)
-  outcome_of (Bunch.Refused p) o q = absurd (let z : ◌≡◌ {A = ℕ} 0 1 = cc in omega arith)
+module _ (r : BunchRead) (a : PacketBit) (v : RawPacketReader) (n : ReaderMemory) (x : Read) (m : ReaderMemory) (e : of_read r a v n ≡ read_reply x m) where
+  pub outcome_is : bunch_outcome r.answer ≡ x.outcome
+  unfolding outcome_in
+  outcome_is = ap (λ (y : ReadReply). outcome_in y.answer) e
 
-  pub says : (answer_text r.answer ≡ outcome_text x.outcome) × (answer_goes_on r.answer ≡ goes_on x.outcome)
-  says = outcome_of r.answer x.outcome (ap (λ (y : ReadReply). y.answer) e)
-
-  pub next_of : r.next.0 ≡ x.next
+  pub next_of : a.0 ≡ x.next
   next_of = ap (λ (y : ReadReply). y.next) e
 
   pub raised_of : (s : Sums) → raised s r.bunches r.malformed_packets r.partial_errors r.channel_limits ≡ raised_by s x
   raised_of s = ap (λ (y : ReadReply). raised s y.bunches y.malformed_packets y.partial_errors y.channel_limits) e
 
-  pub tables_of_is : tables_of r.live_sequences r.live_partials n ≡ x.channels
+  pub tables_of_is : reader_tables v n ≡ x.channels
   tables_of_is = ap (λ (y : ReadReply). tables_of y.live_sequences y.live_partials y.memory) e ∙ laid_back x.channels (tables_laid_in x.held m)
 
 module _ (limit : ℕ) (d : List ℕ) (id : ℤ) where
@@ -159,36 +158,31 @@ module _ (limit : ℕ) (d : List ℕ) (id : ℤ) where
       onward {out'} {text} {end'} p a b c e f =
           rw (b, c, e, f) (turn (subst (λ (y : List ℕ). Put 96 out end y out' end') a p))
 
-      pub less : {at' : ℕ} {more' : Bool} → at' ≡ x.next → more' ≡ goes_on x.outcome → bool_byte more' + (data_bits d - at') < 1 + (data_bits d - at)
-      less {at'} {more'} a b = go more' b
-        where
-          go : (c : Bool) → c ≡ goes_on x.outcome → bool_byte c + (data_bits d - at') < 1 + (data_bits d - at)
-          go true e = omega (arith, v.far (sym e), v.inside)
-          go false e = omega (arith, v.forward)
+      pub less : {at' : ℕ} → at' ≡ x.next → goes_on x.outcome ≡ true → data_bits d - at' < data_bits d - at
+      less a on = omega (arith, v.far on, v.inside)
 
     -- the same by what the calls of a turn ensure
-    module _ (s p : ℕ) (m : ReaderMemory) {out : List ℕ} {end : ℕ} {at : ℕ} {sum : Sums} {more : Bool} (g : Telling out end (tables_of s p m) at sum more) (on : more ≡ true)
-        (word : ℕ) (is : word ≡ of_z w32 id) (r : BunchRead) (n : ReaderMemory) (e : of_read r n ≡ read_reply (next_bunch limit d word at (tables_of s p m)) m) where
-      g' : Telling out end (tables_of s p m) at sum true
-      g' = rw on at g
-
-      e' : of_read r n ≡ read_reply (read_at limit d id at (tables_of s p m)) m
-      e' = rw is at e
+    module _ (q : RawPacketReader) (of : q.max_channels ≡ limit) (m : ReaderMemory) {out : List ℕ} {end : ℕ} {at : ℕ} {sum : Sums} (g : Telling out end (reader_tables q m) at sum true)
+        (word : ℕ) (is : word ≡ of_z w32 id) (r : BunchRead) (a : PacketBit) (v : RawPacketReader) (n : ReaderMemory) (e : of_read r a v n ≡ read_reply (next_bunch q.max_channels d word at (reader_tables q m)) m) where
+      e' : of_read r a v n ≡ read_reply (read_at limit d id at (reader_tables q m)) m
+      e' = e ∙ ap (λ (k : ℕ × ℕ). read_reply (next_bunch k.0 d k.1 at (reader_tables q m)) m) (ap₂ (λ (j k : ℕ). (j, k)) of is)
 
       abbrev y : Read
-      y = read_at limit d id at (tables_of s p m)
+      y = read_at limit d id at (reader_tables q m)
 
-      pub turned : {out' : List ℕ} {end' : ℕ} {sum' : Sums} {more' : Bool} → Put 96 out end (answer_text r.answer) out' end'
-          → sum' ≡ raised sum r.bunches r.malformed_packets r.partial_errors r.channel_limits → more' ≡ answer_goes_on r.answer
-          → Telling out' end' (tables_of r.live_sequences r.live_partials n) r.next.0 sum' more'
-      turned put a b = onward g' put (says r n y m e').0 (tables_of_is r n y m e') (next_of r n y m e') (a ∙ raised_of r n y m e' sum) (b ∙ (says r n y m e').1)
+      pub turned : {out' : List ℕ} {end' : ℕ} {sum' : Sums} → Put 96 out end (outcome_text (bunch_outcome r.answer)) out' end'
+          → sum' ≡ raised sum r.bunches r.malformed_packets r.partial_errors r.channel_limits
+          → Telling out' end' (reader_tables v n) a.0 sum' (goes_on (bunch_outcome r.answer))
+      turned put b =
+          let o = outcome_is r a v n y m e' in
+          onward g put (ap outcome_text o) (tables_of_is r a v n y m e') (next_of r a v n y m e') (b ∙ raised_of r a v n y m e' sum) (ap goes_on o)
 
-      pub nearer : {more' : Bool} → more' ≡ answer_goes_on r.answer → bool_byte more' + (data_bits d - r.next.0) < bool_byte more + (data_bits d - at)
-      nearer b = rw on (less g' (next_of r n y m e') (b ∙ (says r n y m e').1))
+      pub nearer : goes_on (bunch_outcome r.answer) ≡ true → data_bits d - a.0 < data_bits d - at
+      nearer on = less g (next_of r a v n y m e') (sym (ap goes_on (outcome_is r a v n y m e')) ∙ on)
 
-    pub few_sums : {out : List ℕ} {end : ℕ} {t : ReaderTables} {at : ℕ} {sum : Sums} {more : Bool} → Telling out end t at sum more → more ≡ true → length d ≤ 65535 → Few 600000 sum
-    few_sums g on h =
-        let f = g.few on in
+    pub few_sums : {out : List ℕ} {end : ℕ} {t : ReaderTables} {at : ℕ} {sum : Sums} → Telling out end t at sum true → length d ≤ 65535 → Few 600000 sum
+    few_sums g h =
+        let f = g.few refl in
         let b = bits_most d in
         record {
           bunches = omega (arith, f.bunches, g.place, b, h);
@@ -198,18 +192,15 @@ module _ (limit : ℕ) (d : List ℕ) (id : ℤ) where
         }
 
     -- after the last line
-    pub told : {out : List ℕ} {end : ℕ} {s p : ℕ} {m : ReaderMemory} {at : ℕ} {sum : Sums} {more : Bool} {out' : List ℕ} {end' : ℕ} → Telling out end (tables_of s p m) at sum more → more ≡ false
-        → Put 79 out end (closing id sum) out' end' → TablesSound limit s p m → TellsPacket limit l out₀ used out' m (record { end = end'; live_sequences = s; live_partials = p })
-    told {out} {end} {s} {p} {m} {at} {sum} {more} {out'} {end'} g off put state =
-        let b : written out end (closing id sum) ≡ written out₀ used l.text = rw off at g.bytes in
-        let n : end + length (closing id sum) ≡ used + length l.text = rw off at g.ends in
-        let t : tables_of s p m ≡ l.channels = rw off at g.tables in
+    pub told : {out : List ℕ} {end : ℕ} (v : RawPacketReader) (m : ReaderMemory) {at : ℕ} {sum : Sums} {out' : List ℕ} {end' : ℕ} → Telling out end (reader_tables v m) at sum false
+        → Put 79 out end (closing id sum) out' end' → ReaderSound v m → TellsPacket l out₀ used out' m v end'
+    told v m g put state =
         record {
-          bytes = put.bytes ∙ b;
-          ends = put.ends ∙ n;
+          bytes = put.bytes ∙ g.bytes;
+          ends = put.ends ∙ g.ends;
           inside = omega (arith, put.within, put.size, g.room);
           size = put.size ∙ g.size;
-          tables = t;
+          tables = g.tables;
           state = state;
         }
 
@@ -226,17 +217,14 @@ module _ (limit : ℕ) (d : List ℕ) (id : ℤ) where
         size = refl;
       }
 
-pub no_text : (out : List ℕ) (at : ℕ) → Put 96 out at [] out at
+pub no_text : (out : List ℕ) (at : ℕ) {text : List ℕ} → text ≡ [] → Put 96 out at text out at
 unfolding written
-no_text out at = record { bytes = refl; ends = sym (add-zero at); within = omega arith; size = refl }
+no_text out at e = rw e (record { bytes = refl; ends = sym (add-zero at); within = omega arith; size = refl })
 
--- the columns keep their lengths
-pub record SameSizes (m m₀ : ReaderMemory) : Type 0 where
-  pub sequence_channels : length m.sequence_channels ≡ length m₀.sequence_channels
-  pub sequence_numbers : length m.sequence_numbers ≡ length m₀.sequence_numbers
-  pub partial_channels : length m.partial_channels ≡ length m₀.partial_channels
-  pub partial_sequences : length m.partial_sequences ≡ length m₀.partial_sequences
-  pub partial_reliables : length m.partial_reliables ≡ length m₀.partial_reliables
+pub line_text : (b : Bunch) (h : RawBunchHeader) (w : Window) → b ≡ Bunch.Read h w → bunch_line (line_of h) ≡ outcome_text (bunch_outcome b)
+line_text b h w e = sym (ap (λ (x : Bunch). outcome_text (bunch_outcome x)) e)
 
-pub same_sizes : (m : ReaderMemory) → SameSizes m m
-same_sizes m = record { sequence_channels = refl; sequence_numbers = refl; partial_channels = refl; partial_sequences = refl; partial_reliables = refl }
+-- an answer that is no bunch has no line, and is the last
+pub stopped : (b : Bunch) → (b ≡ Bunch.End) ⊎ (b ≡ Bunch.Malformed) → (outcome_text (bunch_outcome b) ≡ []) × (goes_on (bunch_outcome b) ≡ false)
+stopped b (inl e) = rw e (refl, refl)
+stopped b (inr e) = rw e (refl, refl)

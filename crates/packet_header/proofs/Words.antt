@@ -21,7 +21,6 @@ use Rattle.bitio_bits.proofs.Numbers.{cut}
 use Rattle.bitio_window.proofs.Steps.{bits_there}
 use Rattle.packet_header.specs.declared.BunchFields.{BunchFields}
 use Rattle.packet_header.specs.declared.inner.quick.Rest.{Rest}
-use Rattle.packet_header.specs.Header.{readable, as_header}
 use Rattle.packet_header.specs.Word.{Ahead, Within, Reads, shifted}
 
 both : (a b : Bool) → a && b ≡ true → (a ≡ true) × (b ≡ true)
@@ -174,7 +173,7 @@ whole d w p =
 
 -- a header whose bits were all there is the one that the data has
 pub header_reads : (d : List ℕ) (w : Window) (p : Parse BunchFields) {x : ℕ} {f : BunchFields} {r : Rest} → Peeked d (w.start.0 + w.position.0) x
-    → Reads p (record { word = x; used = 0 }) f r → Within w r.used → readable f (w.position.0 + r.used) ≡ as_header (p d w)
+    → Reads p (record { word = x; used = 0 }) f r → Within w r.used → got f (advanced w r.used) ≡ p d w
 header_reads d w p h s t =
-    sym (ap (λ (n : ℕ). as_header (p d (record { start = w.start; position = record { 0 = n }; length = w.length }))) (sym (add-zero w.position.0))
-    ∙ ap as_header (s.same d w (whole d w h) t))
+    sym (ap (λ (n : ℕ). p d (record { start = w.start; position = record { 0 = n }; length = w.length })) (sym (add-zero w.position.0))
+    ∙ s.same d w (whole d w h) t)

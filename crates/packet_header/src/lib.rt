@@ -4,7 +4,7 @@
 pub mod inner;
 
 // What the bits of a header say, wherever it stands; the close reason as its number.
-#[derive(Clone, Copy)]
+#[derive(Clone, Copy, Debug, PartialEq, Eq)]
 pub struct BunchFields {
     pub b_open: bool,
     pub b_close: bool,

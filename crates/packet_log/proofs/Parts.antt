@@ -8,20 +8,20 @@ use native.Mathlib.Nat.{add-zero, add_assoc}
 use native.Mathlib.Omega.{arith}
 use borrow.Author.Tests.{leb-true, leb-false, eqb-true, eqb-false}
 use lib.Dec.{eqb, leb}
-use lib.IntN.{ℤ}
 use lib.ListN.{length, get_or, take, drop, length-append, length-drop, get_or-append}
 use lib.Seq.{get_or-append-add, drop-append-add, drop-append-le, take-append-le}
 use Rattle.bitio_bits.specs.Floats.{signed}
-use Rattle.packet_log.specs.declared.Entry.{Entry}
-use Rattle.packet_log.specs.Log.{length_at, id_at, entry_at}
+use Rattle.std.proofs.Common.{Some, None, Ok, Err}
+use Rattle.packet_log.specs.declared.Record.{Record}
+use Rattle.packet_log.specs.Log.{length_at, id_at, Entry, entry_at}
 use Rattle.packet_log.proofs.Entries.{at_end, cut_at, whole_at}
 use Rattle.packet_log.proofs.Steps.{within}
 
 -- what stands at a place, k bytes on
 abbrev pub shifted : ℕ → Entry → Entry
-shifted k Entry.End = Entry.End
-shifted k (Entry.Cut i) = Entry.Cut (k + i)
-shifted k (Entry.Packet id start n next) = Entry.Packet id (k + start) n (k + next)
+shifted k (Ok None) = Ok None
+shifted k (Err c) = Err (record { at = k + c.at })
+shifted k (Ok (Some r)) = Ok (Some (record { id = r.id; start = k + r.start; length = r.length; next = k + r.next }))
 
 -- a head is its six bytes
 pub record Alike (d : List ℕ) (i : ℕ) (e : List ℕ) (j : ℕ) : Type 0 where
@@ -62,7 +62,7 @@ module _ (a p : List ℕ) where
 
 -- the bytes after
 module _ (p z : List ℕ) where
-  pub before : (i : ℕ) {id : ℤ} {start n next : ℕ} → entry_at p i ≡ Entry.Packet id start n next → entry_at (p ++ z) i ≡ Entry.Packet id start n next
+  pub before : (i : ℕ) {r : Record} → entry_at p i ≡ Ok (Some r) → entry_at (p ++ z) i ≡ Ok (Some r)
   before i e =
       let w = within p i e in
       let size = length-append p z in

@@ -10,8 +10,8 @@ use mir.Syntax.{w32}
 use mir.Val.{SFits, of_z}
 use Rattle.bitio_bits.specs.Floats.{signed}
 use Rattle.bitio_bits.proofs.Signed.{signed_word}
-use Rattle.packet_log.specs.declared.Entry.{Entry}
-use Rattle.packet_log.specs.Log.{version_of, id_at, length_at, entry_at, Packet, whole, log_on, log_at, log_of}
+use Rattle.std.proofs.Common.{Some, Ok}
+use Rattle.packet_log.specs.Log.{version_of, id_at, length_at, Entry, entry_at, Packet, whole, log_on, log_at, log_of}
 use Rattle.packet_log.proofs.Entries.{at_end, whole_at}
 use Rattle.packet_log.proofs.Steps.{steps}
 use Rattle.packet_log.proofs.Parts.{shifted, behind, before, packet_bytes}
@@ -39,7 +39,7 @@ All (p ∷ ps) = Fits p × All ps
 four_bytes : (w : ℕ) → 16777216 * (w / 16777216) + 65536 * (w / 65536 % 256) + 256 * (w / 256 % 256) + w % 256 ≡ w
 four_bytes w = omega arith
 
-one_record : (p : Packet) → Fits p → entry_at (record_of p) 0 ≡ Entry.Packet p.id 6 (length p.bytes) (6 + length p.bytes)
+one_record : (p : Packet) → Fits p → entry_at (record_of p) 0 ≡ Ok (Some (record { id = p.id; start = 6; length = length p.bytes; next = 6 + length p.bytes }))
 one_record p f =
     let l : length_at (record_of p) 0 ≡ length p.bytes = omega arith in
     let i : id_at (record_of p) 0 ≡ p.id = ap signed (four_bytes (of_z w32 p.id)) ∙ signed_word p.id f.word in
@@ -56,7 +56,7 @@ back a (p ∷ ps) h =
     let q = record_of p in
     let d = a ++ (q ++ records_of ps) in
     let n = length p.bytes in
-    let found : entry_at d (length a + 0) ≡ Entry.Packet p.id (length a + 6) n (length a + (6 + n)) = behind a (q ++ records_of ps) 0 ∙ ap (shifted (length a)) (before q (records_of ps) 0 (one_record p h.0)) in
+    let found : entry_at d (length a + 0) ≡ Ok (Some (record { id = p.id; start = length a + 6; length = n; next = length a + (6 + n) })) = behind a (q ++ records_of ps) 0 ∙ ap (shifted (length a)) (before q (records_of ps) 0 (one_record p h.0)) in
     let bytes : take n (drop (length a + 6) d) ≡ p.bytes = packet_bytes a q (records_of ps) 6 n (omega arith) ∙ take-length p.bytes in
     let place : length (a ++ q) ≡ length a + (6 + n) = omega (arith, length-append a q) in
     let rest : log_at d (length a + (6 + n)) ≡ record { packets = ps; ending = whole } = rw (append_assoc a q (records_of ps), place) at (back (a ++ q) ps h.1) in

@@ -4,10 +4,9 @@
 pub mod inner;
 pub mod reading;
 
-// What stands where the version byte is looked for.
-#[derive(Clone, Copy)]
-pub enum Version {
-    Ours,
+// Why a log isn't read: it has another version, or none.
+#[derive(Clone, Copy, Debug, PartialEq, Eq)]
+pub enum VersionError {
     Other(u8),
     Missing,
 }
@@ -19,18 +18,17 @@ pub struct Head {
     pub id: i32,
 }
 
-// What stands where a record is looked for: a packet with its first byte, its length and the next record's place; the log's
-// end; or a record that is cut, with its start.
+// A packet with its first byte, its length and the next record's place.
 #[derive(Clone, Copy)]
-pub enum Entry {
-    Packet {
-        id: i32,
-        start: u64,
-        length: u64,
-        next: u64,
-    },
-    End,
-    Cut {
-        at: u64,
-    },
+pub struct Record {
+    pub id: i32,
+    pub start: u64,
+    pub length: u64,
+    pub next: u64,
+}
+
+// A record that is cut, with its start.
+#[derive(Clone, Copy, Debug, PartialEq, Eq)]
+pub struct Cut {
+    pub at: u64,
 }

@@ -2,42 +2,39 @@
 ghost use Rattle.std.specs.Prelude.{◌≡◌};
 ghost use Rattle.packet_log.specs.Log.{version_of, entry_at};
 
-use crate::{Entry, Version, inner};
+use crate::{Cut, Record, VersionError, inner};
 
-pub fn version(bytes: &[u8]) -> Version
+#[tactic(auto, unfolding(crate::specs::Log::version_of))]
+pub fn version(bytes: &[u8]) -> Result<(), VersionError>
     ensures { result ≡ version_of bytes.now }
 {
-    if bytes.len() == 0 {
-        return Version::Missing;
+    match bytes {
+        [] => Err(VersionError::Missing),
+        [1, ..] => Ok(()),
+        [other, ..] => Err(VersionError::Other(*other)),
     }
-    let first = bytes[0];
-    if first == 1 {
-        return Version::Ours;
-    }
-    Version::Other(first)
 }
 
-pub fn record_at(bytes: &[u8], at: u64) -> Entry
+// None at the log's end.
+#[tactic(auto, unfolding(crate::specs::Log::entry_at))]
+pub fn record_at(bytes: &[u8], at: u64) -> Result<Option<Record>, Cut>
     ensures { result ≡ entry_at bytes.now at }
 {
     let size = bytes.len() as u64;
     if at == size {
-        return Entry::End;
+        return Ok(None);
     }
-    if size < at {
-        return Entry::Cut { at };
-    }
-    if size - at < 6 {
-        return Entry::Cut { at };
+    if size < at || size - at < 6 {
+        return Err(Cut { at });
     }
     let head = inner::head(bytes, at as usize);
     if size - at - 6 < head.length {
-        return Entry::Cut { at };
+        return Err(Cut { at });
     }
-    Entry::Packet {
+    Ok(Some(Record {
         id: head.id,
         start: at + 6,
         length: head.length,
         next: at + 6 + head.length,
-    }
+    }))
 }

@@ -30,8 +30,8 @@ module _ {limit s p : ℕ} {m : ReaderMemory} (state : TablesSound limit s p m) 
   kept = numbered_kept S (sequences_kept m.sequence_channels state.sequences m.sequence_numbers state.numbers) id f
 
   -- by what numbering left
-  module _ (n : I.Numbered) (sc sn : List ℕ) (e : numbered_in n sc sn ≡ sequences_laid N m.sequence_channels m.sequence_numbers) where
-    live : n.live ≡ length N.table
+  module _ (n : I.Numbered) (left : ℕ) (sc sn : List ℕ) (e : numbered_in n left sc sn ≡ sequences_laid N m.sequence_channels m.sequence_numbers) where
+    live : left ≡ length N.table
     live = ap (λ (x : NumberedIn). x.live) e
 
     sequence : n.sequence ≡ N.sequence
@@ -49,7 +49,7 @@ module _ {limit s p : ℕ} {m : ReaderMemory} (state : TablesSound limit s p m) 
     abbrev after : ReaderMemory
     after = reader_memory sc sn m.partial_channels m.partial_sequences m.partial_reliables
 
-    pub numbered_state : TablesSound limit n.live p after
+    pub numbered_state : TablesSound limit left p after
     numbered_state =
         record {
           sequences = rw (live, channels_are) (kept_fits N.table kept m.sequence_channels state.sequences);
@@ -59,7 +59,7 @@ module _ {limit s p : ℕ} {m : ReaderMemory} (state : TablesSound limit s p m) 
           partial_reliables = state.partial_reliables;
         }
 
-    pub overrun : end - at < f.payload_bit_count → stopping malformed end 1 n.limited n.live p after ≡ finishes limit s p end f id at m
+    pub overrun : end - at < f.payload_bit_count → stopping malformed end 1 n.limited left p after ≡ finishes limit s p end f id at m
     unfolding finishes tables_of tables_laid_in
     overrun h =
         let q = same_partials state in
@@ -80,7 +80,7 @@ module _ {limit s p : ℕ} {m : ReaderMemory} (state : TablesSound limit s p m) 
           numbers_are,
         )
 
-    pub fits : f.payload_bit_count ≤ end - at → settles limit n.live p f id at n.sequence n.limited after ≡ finishes limit s p end f id at m
+    pub fits : f.payload_bit_count ≤ end - at → settles limit left p f id at n.sequence n.limited after ≡ finishes limit s p end f id at m
     unfolding settles finishes whole tables_of tables_laid_in
     fits h =
         rw (

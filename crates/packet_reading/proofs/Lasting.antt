@@ -5,6 +5,7 @@ use mathlib.Core.Bool.{Bool, true, false, cond}
 use mathlib.Core.List.{List}
 use lib.Dec.{eqb, leb, ltb}
 use lib.ListN.{length, length-map}
+use Rattle.bitio_window.specs.declared.PacketBit.{PacketBit}
 use Rattle.tables.specs.Tables.{values}
 use Rattle.packet_header.specs.declared.BunchFields.{BunchFields}
 use Rattle.packet_header.specs.Header.{Header, unreadable, readable, as_header, fields}
@@ -14,6 +15,7 @@ use Rattle.packet_tracking.specs.Partials.{tracking}
 use Rattle.packet_reading.specs.Packet.{ReaderTables, Read, last_byte, data_bits, rest, tables_holding, tables_retired, retires, whole, headed, next_bunch}
 use Rattle.packet_reading.specs.Memory.{ReaderMemory, tables_of, tables_laid_in}
 use Rattle.packet_reading.specs.State.{TablesSound}
+use Rattle.packet_reading.specs.declared.RawPacketReader.{RawPacketReader}
 use Rattle.packet_reading.specs.declared.BunchRead.{BunchRead}
 use Rattle.packet_reading.specs.Answers.{ReadReply, of_read, read_reply}
 use Rattle.tables.proofs.Kept.{Kept, without_kept}
@@ -93,5 +95,5 @@ module _ {limit s p : ℕ} {m : ReaderMemory} (state : TablesSound limit s p m) 
       let k = after limit (tables_of s p m) (both_of state) d id at in
       laid_state (laid_state state x.held k.held) x.channels k.channels
 
-  pub state_of : (r : BunchRead) (n : ReaderMemory) → of_read r n ≡ read_reply x m → TablesSound limit r.live_sequences r.live_partials n
-  state_of r n e = subst (λ (y : ReadReply). TablesSound limit y.live_sequences y.live_partials y.memory) (sym e) state_after
+  pub state_of : (r : BunchRead) (a : PacketBit) (v : RawPacketReader) (n : ReaderMemory) → of_read r a v n ≡ read_reply x m → TablesSound limit v.live_sequences v.live_partials n
+  state_of r a v n e = subst (λ (y : ReadReply). TablesSound limit y.live_sequences y.live_partials y.memory) (sym e) state_after

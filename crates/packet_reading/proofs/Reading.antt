@@ -1,7 +1,7 @@
 -- What a reading call comes to, test by test, and what it leaves where no table changes.
 use Prim.Native.Nat.{ℕ, ◌≤◌, ◌<◌}
-use mathlib.Core.Path.{◌≡◌, sym, ◌∙◌}
-use mathlib.Core.Bool.{Bool, true, false}
+use mathlib.Core.Path.{◌≡◌, sym, ap, ◌∙◌}
+use mathlib.Core.Bool.{Bool, false}
 use mathlib.Core.List.{List}
 use native.Mathlib.Omega.{arith}
 use lib.ListN.{length, take}
@@ -11,9 +11,11 @@ use Rattle.tables.specs.Columns.{laid, beside}
 use Rattle.tables.specs.Tables.{channels}
 use Rattle.tables.proofs.Columns.{laid_take, length_beside, beside_first, beside_second}
 use Rattle.tables.proofs.Held.{Holds, holds}
-use Rattle.packet_header.specs.Header.{Header, unreadable, readable, as_header, fields}
-use Rattle.packet_header.specs.declared.inner.HeaderRead.{HeaderRead}
-use Rattle.packet_header.specs.Row.{header_read}
+use Rattle.bitio_window.specs.declared.Window.{Window}
+use Rattle.bitio_window.specs.Refusals.{Refusal}
+use Rattle.bitio_window.specs.Parse.{got, refused}
+use Rattle.packet_header.specs.declared.BunchFields.{BunchFields}
+use Rattle.packet_header.specs.Header.{Header, unreadable, as_header, fields}
 use Rattle.packet_tracking.specs.Sequences.{numbered}
 use Rattle.packet_reading.specs.Packet.{compared, ReaderTables, end, malformed, last_byte, data_bits, rest, ended_at, malformed_at, headed, next_bunch}
 use Rattle.packet_tracking.specs.SequenceColumns.{sequences_at}
@@ -74,10 +76,6 @@ module _ {limit s p : ℕ} {m : ReaderMemory} (state : TablesSound limit s p m) 
   pub says_broken : (bits : ℕ) (limited : Bool) → stopping malformed bits 1 limited s p m ≡ read_reply (malformed_at bits limited (tables_of s p m)) m
   says_broken bits limited = sym (rw (sequences_live, partials_live, same, same))
 
--- a header that the row read to its end
-pub begun : (h : HeaderRead) {x : Header} → header_read h ≡ x → h.stopped ≡ false → readable h.fields h.position ≡ x
-begun h e s = let q : header_read h ≡ readable h.fields h.position = rw s in sym q ∙ e
-
 -- the tests, in their order
 module _ (limit : ℕ) (d : List ℕ) (id at : ℕ) (t : ReaderTables) where
   pub empty : length d ≡ 0 → next_bunch limit d id at t ≡ ended_at 0 t
@@ -98,10 +96,10 @@ module _ (limit : ℕ) (d : List ℕ) (id at : ℕ) (t : ReaderTables) where
       unfolding next_bunch
       goes_on less e = rw (ne_eqb (length d) 0 some, ne_eqb (last_byte d) 0 marked, lt-leb (data_bits d) at less, sym e)
 
-      -- by what the header's row gave
-      module _ (h : HeaderRead) (less : at < data_bits d) (e : header_read h ≡ as_header (fields d (rest (data_bits d) at))) where
-        pub unread : h.stopped ≡ true → next_bunch limit d id at t ≡ malformed_at (data_bits d) false t
-        unread s = goes_on less {h = unreadable} (let q : header_read h ≡ unreadable = rw s in sym q ∙ e)
+      -- by what the header's reads gave
+      module _ (less : at < data_bits d) where
+        pub unread : {r : Refusal} {u : Window} → refused r u ≡ fields d (rest (data_bits d) at) → next_bunch limit d id at t ≡ malformed_at (data_bits d) false t
+        unread e = goes_on less {h = unreadable} (ap as_header e)
 
-        pub read_on : h.stopped ≡ false → next_bunch limit d id at t ≡ compared (data_bits d) h.fields id h.position limit (numbered limit id h.fields t.sequences) t.partials
-        read_on s = goes_on less (begun h e s)
+        pub read_on : {f : BunchFields} {u : Window} → got f u ≡ fields d (rest (data_bits d) at) → next_bunch limit d id at t ≡ compared (data_bits d) f id u.position.0 limit (numbered limit id f t.sequences) t.partials
+        read_on e = goes_on less (ap as_header e)

@@ -58,11 +58,11 @@ module _ {limit s p : ℕ} {m : ReaderMemory} (state : TablesSound limit s p m) 
     closes h = rw (h, same_channels, same_numbers)
 
     -- by what the tracker left
-    module _ (k : T.Tracked) (pc ps pr : List ℕ) (e : tracked_in k pc ps pr ≡ tracks_to limit p f sequence limited m.partial_channels m.partial_sequences m.partial_reliables) where
+    module _ (k : T.Tracked) (left : ℕ) (pc ps pr : List ℕ) (e : tracked_in k left pc ps pr ≡ tracks_to limit p f sequence limited m.partial_channels m.partial_sequences m.partial_reliables) where
       kept : Kept limit P'
       kept = tracking_kept P (partials_kept m.partial_channels state.partials m.partial_sequences m.partial_reliables state.partial_sequences state.partial_reliables) f sequence limited
 
-      live : k.live ≡ length P'
+      live : left ≡ length P'
       live = ap (λ (x : TrackedIn). x.live) e
 
       channels_are : pc ≡ laid (channels P') m.partial_channels
@@ -74,7 +74,7 @@ module _ {limit s p : ℕ} {m : ReaderMemory} (state : TablesSound limit s p m) 
       reliables_are : pr ≡ laid (reliables_in_flight P') m.partial_reliables
       reliables_are = ap (λ (x : TrackedIn). x.reliables) e
 
-      pub tracked_fits : TableFits limit k.live pc
+      pub tracked_fits : TableFits limit left pc
       tracked_fits = rw (live, channels_are) (kept_fits P' kept m.partial_channels state.partials)
 
       pub tracked_sizes : (length ps ≡ length m.partial_sequences) × (length pr ≡ length m.partial_reliables)
@@ -83,16 +83,16 @@ module _ {limit s p : ℕ} {m : ReaderMemory} (state : TablesSound limit s p m) 
           rw (sequences_are, reliables_are)
           (kept_size P' kept (sequences_in_flight P') m.partial_sequences (length-map (values P') (λ (x : Partial). x.0) ∙ v) state.partial_sequences, kept_size P' kept (reliables_in_flight P') m.partial_reliables (length-map (values P') (λ (x : Partial). x.1) ∙ v) state.partial_reliables)
 
-      pub left_open : retires f ≡ false → bunch_handed_out f id at sequence limited k.error k.completed s k.live (reader_memory m.sequence_channels m.sequence_numbers pc ps pr)
+      pub left_open : retires f ≡ false → bunch_handed_out f id at sequence limited k.error k.completed s left (reader_memory m.sequence_channels m.sequence_numbers pc ps pr)
           ≡ settles limit s p f id at sequence limited m
       left_open h =
           rw (live, channels_are, sequences_are, reliables_are, ap (λ (x : TrackedIn). x.error) e, ap (λ (x : TrackedIn). x.completed) e)
           (sym (stays_open h))
 
       pub closed : retires f ≡ true → (s' p' : ℕ) (sc sn pc' ps' pr' : List ℕ) → LaidSequences (without f.ch_index S) m.sequence_channels m.sequence_numbers s' sc sn
-          → LaidPartials (without f.ch_index (partials_at k.live pc ps pr)) pc ps pr p' pc' ps' pr'
+          → LaidPartials (without f.ch_index (partials_at left pc ps pr)) pc ps pr p' pc' ps' pr'
           → bunch_handed_out f id at sequence limited k.error k.completed s' p' (reader_memory sc sn pc' ps' pr') ≡ settles limit s p f id at sequence limited m
       closed h s' p' sc sn pc' ps' pr' a b =
-          let back : partials_at k.live pc ps pr ≡ P' = rw (live, channels_are, sequences_are, reliables_are) (partials_back P' m.partial_channels m.partial_sequences m.partial_reliables) in
+          let back : partials_at left pc ps pr ≡ P' = rw (live, channels_are, sequences_are, reliables_are) (partials_back P' m.partial_channels m.partial_sequences m.partial_reliables) in
           rw (a.live_is, a.channels_are, a.numbers_are, b.live_is, b.channels_are, b.sequences_are, b.reliables_are, back, channels_are, sequences_are, reliables_are, ap (λ (x : TrackedIn). x.error) e, ap (λ (x : TrackedIn). x.completed) e)
           (sym (closes h))

@@ -1,8 +1,10 @@
 -- What a reading call answers, in the paper's terms.
 use Rattle.std.specs.Prelude.{ℕ, length}
+use Rattle.bitio_window.specs.declared.PacketBit.{PacketBit}
 use Rattle.bitio_window.specs.Refusals.{Refusal, beyond, packet_too_long, unfit, unsound}
-use Rattle.bitio_window.specs.Parse.{Result, value, refusal}
+use Rattle.bitio_window.specs.Parse.{Result, value}
 use Rattle.packet_reading.specs.declared.PacketError.{PacketError}
+use Rattle.packet_reading.specs.declared.RawPacketReader.{RawPacketReader}
 use Rattle.packet_reading.specs.declared.Bunch.{Bunch}
 use Rattle.packet_reading.specs.declared.BunchRead.{BunchRead}
 use Rattle.packet_reading.specs.Packet as P
@@ -27,21 +29,20 @@ pub record ReadReply : Type 0 where
   pub live_partials : ℕ
   pub memory : ReaderMemory
 
-abbrev pub bunch_answer : Bunch → Result P.Outcome
-bunch_answer (Bunch.Read h w) = value (P.bunch h w)
-bunch_answer Bunch.End = value P.end
-bunch_answer Bunch.Malformed = value P.malformed
-bunch_answer (Bunch.Refused e) = refusal (packet_paper e)
+abbrev pub bunch_outcome : Bunch → P.Outcome
+bunch_outcome (Bunch.Read h w) = P.bunch h w
+bunch_outcome Bunch.End = P.end
+bunch_outcome Bunch.Malformed = P.malformed
 
-abbrev pub of_read : BunchRead → ReaderMemory → ReadReply
-of_read r m =
+abbrev pub of_read : BunchRead → PacketBit → RawPacketReader → ReaderMemory → ReadReply
+of_read b at r m =
     record {
-      answer = bunch_answer r.answer;
-      next = r.next.0;
-      bunches = r.bunches;
-      malformed_packets = r.malformed_packets;
-      partial_errors = r.partial_errors;
-      channel_limits = r.channel_limits;
+      answer = value (bunch_outcome b.answer);
+      next = at.0;
+      bunches = b.bunches;
+      malformed_packets = b.malformed_packets;
+      partial_errors = b.partial_errors;
+      channel_limits = b.channel_limits;
       live_sequences = r.live_sequences;
       live_partials = r.live_partials;
       memory = m;

@@ -1,9 +1,10 @@
 -- The reader's tables in lent memory: five columns, of which the first places count, by ascending channel.
-use Rattle.std.specs.Prelude.{ℕ, Bool, ◌&&◌, List, leb, length, take}
+use Rattle.std.specs.Prelude.{ℕ, Bool, ◌&&◌, List, leb, length, take, ◌≡◌}
 use Rattle.tables.specs.Columns.{laid, ascending}
 use Rattle.tables.specs.Tables.{channels, values}
 use Rattle.types.specs.Types.{most_channels}
 use Rattle.packet_reading.specs.declared.RawPacketReader.{RawPacketReader}
+use Rattle.packet_reading.specs.declared.ReaderColumns.{ReaderColumns}
 use Rattle.packet_reading.specs.Packet.{ReaderTables}
 use Rattle.packet_tracking.specs.SequenceColumns.{sequences_at}
 use Rattle.packet_tracking.specs.PartialColumns.{partials_at, sequences_in_flight, reliables_in_flight}
@@ -28,6 +29,19 @@ reader_memory a b c d e =
       partial_sequences = d;
       partial_reliables = e;
     }
+
+-- what lent columns hold
+abbrev pub columns_memory : ReaderColumns → ReaderMemory
+columns_memory c =
+    reader_memory c.sequence_channels.now c.sequence_numbers.now c.partial_channels.now c.partial_sequences.now c.partial_reliables.now
+
+-- A call writes to the columns that it was lent, and puts no others in their place.
+pub record SameColumns (c d : ReaderColumns) : Type 0 where
+  pub sequence_channels : d.sequence_channels.ghost_name ≡ c.sequence_channels.ghost_name
+  pub sequence_numbers : d.sequence_numbers.ghost_name ≡ c.sequence_numbers.ghost_name
+  pub partial_channels : d.partial_channels.ghost_name ≡ c.partial_channels.ghost_name
+  pub partial_sequences : d.partial_sequences.ghost_name ≡ c.partial_sequences.ghost_name
+  pub partial_reliables : d.partial_reliables.ghost_name ≡ c.partial_reliables.ghost_name
 
 -- the tables that the first s and the first p places hold
 unfoldable pub tables_of : ℕ → ℕ → ReaderMemory → ReaderTables

@@ -1,12 +1,11 @@
 -- Document 01's "A packet": what a reading call answers at a cursor.
-use Rattle.std.specs.Prelude.{ℕ, ◌+◌, ◌*◌, ◌-◌, Bool, true, false, not, ◌&&◌, cond, List, [], eqb, leb, ltb, length, get_or}
+use Rattle.std.specs.Prelude.{ℕ, ◌+◌, ◌*◌, ◌-◌, Bool, true, false, not, ◌&&◌, cond, List, [], eqb, leb, ltb, length, get_or, None}
 use Rattle.std.specs.Int.Count.{count_leading_zeros}
 use mir.Val.{bool_byte}
 use Rattle.bitio_window.specs.declared.Window.{Window}
 use Rattle.bitio_bits.specs.Floats.{signed}
 use Rattle.tables.specs.Tables.{Table, without}
 use Rattle.types.specs.declared.RawBunchHeader.{RawBunchHeader}
-use Rattle.types.specs.declared.PartialSequenceKind.{PartialSequenceKind}
 use Rattle.types.specs.Types.{reason_of}
 use Rattle.packet_header.specs.declared.BunchFields.{BunchFields}
 use Rattle.packet_header.specs.Header.{Header, unreadable, readable, as_header, fields}
@@ -98,7 +97,7 @@ header f id at sequence limited error completed =
       payload_bit_count = f.payload_bit_count;
       payload_bit_offset = at;
       has_partial_error = error;
-      partial_error_kind = PartialSequenceKind.None;
+      partial_error_kind = None;
       is_partial_completed = completed;
       has_channel_limit_error = limited;
     }

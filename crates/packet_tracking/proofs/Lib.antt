@@ -2,5 +2,4 @@ pub mod Numbering
 pub mod SequenceRetiring
 pub mod Tracking
 pub mod Effects
-pub mod PartialRetiring
 pub mod Kept

@@ -7,7 +7,7 @@ use native.Mathlib.Omega.{arith}
 use lib.ListN.{length, get_or, set, take}
 use lib.Seq.{length-take-le, get_or-take}
 use borrow.Author.Tests.{le-leb, lt-leb, eq-eqb, ne_eqb}
-use Rattle.tables.specs.declared.Slot.{Slot}
+use Rattle.std.specs.Prelude.{Ok, Err}
 use Rattle.tables.specs.Columns.{laid, inserted_at}
 use Rattle.tables.specs.Tables.{Table, none, found, get, slot_of}
 use Rattle.tables.proofs.Columns.{laid_take, laid_set}
@@ -36,7 +36,7 @@ module _ {limit live : ℕ} (ch nu : List ℕ) (fits : TableFits limit live ch) 
       ≡ record { sequence = word; limited = limited; live = live; channels = ch; numbers = nu }
   same_sequences word limited = rw (laid_take live ch, laid_take live nu) at (laid_as ch nu {word = word} {limited = limited} (holds (take live ch) (take live nu) long wide))
 
-  module _ (c i : ℕ) (slot : slot_of c (take live ch) ≡ Slot.At i) where
+  module _ (c i : ℕ) (slot : slot_of c (take live ch) ≡ Ok i) where
     pub at_inside : i < live
     at_inside = rw long at (at_within c i (take live ch) slot)
 
@@ -55,7 +55,7 @@ module _ {limit live : ℕ} (ch nu : List ℕ) (fits : TableFits limit live ch) 
         rw (before, ne_eqb (get_or nu i 0) last_sequence h)
         (rw (laid_take live ch, sym (laid_set live i (following (get_or nu i 0)) nu at_inside)) at (laid_as ch nu {word = following (get_or nu i 0)} {limited = false} (at_put_holds c i (take live ch) (take live nu) long wide fits.ascends slot (following (get_or nu i 0)))))
 
-  module _ (c i : ℕ) (slot : slot_of c (take live ch) ≡ Slot.Free i) where
+  module _ (c i : ℕ) (slot : slot_of c (take live ch) ≡ Err i) where
     absent : get c t ≡ none
     absent = free_get c i (take live ch) slot (take live nu) (long ∙ sym wide) fits.ascends
 

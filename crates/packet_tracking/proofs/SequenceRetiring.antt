@@ -4,7 +4,7 @@ use mathlib.Core.Path.{◌≡◌, sym, ◌∙◌}
 use mathlib.Core.List.{List}
 use lib.ListN.{length, take}
 use lib.Seq.{length-take-le}
-use Rattle.tables.specs.declared.Slot.{Slot}
+use Rattle.std.specs.Prelude.{Ok, Err}
 use Rattle.tables.specs.Columns.{laid, removed_at}
 use Rattle.tables.specs.Tables.{Table, without, slot_of}
 use Rattle.tables.proofs.Columns.{laid_take}
@@ -23,11 +23,11 @@ module _ {live : ℕ} (c i : ℕ) (ch nu : List ℕ) (fits : TableLive live ch) 
   wide : length (take live nu) ≡ live
   wide = length-take-le live nu size
 
-  pub sequence_gone : slot_of c (take live ch) ≡ Slot.At i → {n : ℕ} → suc n ≡ live
+  pub sequence_gone : slot_of c (take live ch) ≡ Ok i → {n : ℕ} → suc n ≡ live
       → LaidSequences (without c (sequences_at live ch nu)) ch nu n (laid (removed_at i (take live ch)) ch) (laid (removed_at i (take live nu)) nu)
   sequence_gone slot e = laid_sequences ch nu (at_without_holds c i (take live ch) (take live nu) long wide fits.ascends slot e)
 
-  pub sequence_absent : slot_of c (take live ch) ≡ Slot.Free i → LaidSequences (without c (sequences_at live ch nu)) ch nu live ch nu
+  pub sequence_absent : slot_of c (take live ch) ≡ Err i → LaidSequences (without c (sequences_at live ch nu)) ch nu live ch nu
   sequence_absent slot =
       rw (free_without c i (take live ch) slot (take live nu) (long ∙ sym wide) fits.ascends)
       (rw (laid_take live ch, laid_take live nu) at (laid_sequences ch nu (holds (take live ch) (take live nu) long wide)))

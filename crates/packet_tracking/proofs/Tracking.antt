@@ -5,7 +5,7 @@ use mathlib.Core.List.{List}
 use native.Mathlib.Omega.{arith}
 use lib.ListN.{length, get_or, set, take, length-set}
 use lib.Seq.{length-take-le, get_or-take}
-use Rattle.tables.specs.declared.Slot.{Slot}
+use Rattle.std.specs.Prelude.{Ok, Err}
 use Rattle.tables.specs.Columns.{inserted_at, removed_at, beside}
 use Rattle.tables.specs.Tables.{Table, none, found, get, put, without, channels, slot_of}
 use Rattle.tables.proofs.Columns.{length_inserted, length_removed, inserted_beside, removed_beside, set_beside, length_beside, get_d_beside, beside_first, beside_second}
@@ -63,7 +63,7 @@ module _ {live : ℕ} (c i : ℕ) (ch se re : List ℕ) (fits : TableLive live c
   pub same_bears : Bears t (take live ch) (take live se) (take live re) live
   same_bears = bears (take live se) (take live re) (holds (take live ch) vs long tall) refl alike
 
-  module _ (slot : slot_of c (take live ch) ≡ Slot.At i) where
+  module _ (slot : slot_of c (take live ch) ≡ Ok i) where
     pub inside : i < live
     inside = at_live c i live ch fits.room slot
 
@@ -89,7 +89,7 @@ module _ {live : ℕ} (c i : ℕ) (ch se re : List ℕ) (fits : TableLive live c
         bears (removed_at i (take live se)) (removed_at i (take live re)) (at_without_holds c i (take live ch) vs long tall fits.ascends slot e) (removed_beside i (take live se) (take live re))
         (omega (arith, p, q, alike))
 
-  module _ (slot : slot_of c (take live ch) ≡ Slot.Free i) where
+  module _ (slot : slot_of c (take live ch) ≡ Err i) where
     pub absent : get c t ≡ none
     absent = free_get c i (take live ch) slot vs (long ∙ sym tall) fits.ascends
 

@@ -26,12 +26,12 @@ pub record TrackedIn : Type 0 where
   pub sequences : List ℕ
   pub reliables : List ℕ
 
-abbrev pub tracked_in : T.Tracked → List ℕ → List ℕ → List ℕ → TrackedIn
-tracked_in r channels sequences reliables =
+abbrev pub tracked_in : T.Tracked → ℕ → List ℕ → List ℕ → List ℕ → TrackedIn
+tracked_in r live channels sequences reliables =
     record {
       error = r.error;
       completed = r.completed;
-      live = r.live;
+      live = live;
       channels = channels;
       sequences = sequences;
       reliables = reliables;

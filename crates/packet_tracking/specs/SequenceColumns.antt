@@ -16,12 +16,12 @@ pub record NumberedIn : Type 0 where
   pub channels : List ℕ
   pub numbers : List ℕ
 
-abbrev pub numbered_in : I.Numbered → List ℕ → List ℕ → NumberedIn
-numbered_in r channels numbers =
+abbrev pub numbered_in : I.Numbered → ℕ → List ℕ → List ℕ → NumberedIn
+numbered_in r live channels numbers =
     record {
       sequence = r.sequence;
       limited = r.limited;
-      live = r.live;
+      live = live;
       channels = channels;
       numbers = numbers;
     }

@@ -1,19 +1,18 @@
 -- Ascending lists: a turn of the pass over one, and what the pass shows.
 use mathlib.Core.Path.{◌≡◌, refl, sym, ap, ◌∙◌}
-use mathlib.Core.Bool.{Bool, true, false, ◌&&◌, and-true, and_assoc}
+use mathlib.Core.Bool.{Bool, true, ◌&&◌, and-true, and_assoc}
 use mathlib.Core.List.{List, [], ◌∷◌}
-use Prim.Native.Nat.{ℕ, zero, suc, ◌-◌, ◌≤◌, ◌<◌}
+use Prim.Native.Nat.{ℕ, zero, suc, ◌+◌, ◌≤◌, ◌<◌}
 use native.Mathlib.Nat.{not-suc-le-zero, le_of_suc-le-suc}
+use native.Mathlib.Numerals.{add-one}
 use native.Mathlib.Omega.{arith}
 use lib.Dec.{ltb}
 use lib.ListN.{length, get_or, take}
+use lib.Seq.{take_all}
 use borrow.Author.Tests.{ltb-true, lt-ltb}
+pub use Rattle.std.proofs.lemmas.Bool.{and_parts as both}
 use Rattle.tables.specs.Columns.{above, ascending}
 use Rattle.tables.specs.Search.{Rising}
-
-pub both : (a b : Bool) → a && b ≡ true → (a ≡ true) × (b ≡ true)
-both true b e = (refl, e)
-both false b e = let z : ◌≡◌ {A = ℕ} 0 1 = cc in absurd (omega arith)
 
 above_turn : (x i : ℕ) (l : List ℕ) → i < length l → above x (take (suc i) l) ≡ (above x (take i l) && ltb (get_or (x ∷ l) i 0) (get_or l i 0))
 unfolding above
@@ -22,20 +21,21 @@ above_turn x zero (y ∷ l) h = and-true (ltb x y)
 above_turn x (suc i) (y ∷ l) h =
     ap (λ (b : Bool). ltb x y && b) (above_turn y i l (le_of_suc-le-suc h)) ∙ sym (and_assoc (ltb x y) (above y (take i l)) (ltb (get_or (y ∷ l) i 0) (get_or l i 0)))
 
-pub turn : (i j : ℕ) (l : List ℕ) → j ≡ suc i → j < length l → (ascending (take (suc i) l) && ltb (get_or l i 0) (get_or l j 0)) ≡ ascending (take (suc j) l)
+pub turn : (i j : ℕ) (l : List ℕ) → j ≡ suc i → j < length l → (ascending (take j l) && ltb (get_or l i 0) (get_or l j 0)) ≡ ascending (take (j + 1) l)
 unfolding ascending
 turn i j [] e h = absurd (not-suc-le-zero h)
-turn i j (x ∷ l) e h = rw e (sym (above_turn x i l (omega arith)))
+turn i j (x ∷ l) e h = rw (add-one, e) (sym (above_turn x i l (omega arith)))
 
 pub begins : (l : List ℕ) → true ≡ ascending (take 1 l)
 unfolding ascending above
 begins [] = refl
 begins (x ∷ l) = refl
 
-pub ends : (i n : ℕ) (l : List ℕ) → i ≡ n - 1 → ascending (take (suc i) l) ≡ ascending (take n l)
+-- where there is no channel one is passed all the same
+pub ends : (i n : ℕ) (l : List ℕ) → 1 ≤ i → i ≤ n + 1 → n ≤ i → (1 ≤ n → i ≤ n) → ascending (take i l) ≡ ascending (take n l)
 unfolding ascending
-ends i zero l e = let z : i ≡ 0 = omega arith in rw z (sym (begins l))
-ends i (suc n) l e = let z : suc i ≡ suc n = omega arith in rw z refl
+ends i zero l low high past end = let z : i ≡ 1 = omega arith in rw z (sym (begins l))
+ends i (suc n) l low high past end = let z : i ≡ suc n = omega (arith, end (omega arith)) in rw z refl
 
 pub above_rest : (x y : ℕ) (l : List ℕ) → above x (y ∷ l) ≡ true → (x < y) × (above y l ≡ true)
 unfolding above
@@ -68,5 +68,5 @@ ascending_rises (suc n) (x ∷ l) e g zero (suc j) f h = above_all x j n l e (le
 ascending_rises (suc n) (x ∷ l) e g (suc i) (suc j) f h =
     ascending_rises n l (ascending_rest x (take n l) e) (le_of_suc-le-suc g) i j (le_of_suc-le-suc f) (le_of_suc-le-suc h)
 
-pub rising : (l : List ℕ) (live : ℕ) → live ≤ length l → live ≤ 4096 → ascending (take live l) ≡ true → Rising l live
-rising l live f g e = record { fits = f; few = g; rises = ascending_rises live l e f }
+pub rising : (l : List ℕ) → length l ≤ 4096 → ascending l ≡ true → Rising l
+rising l g e = record { few = g; rises = ascending_rises (length l) l (rw (take_all (length l) l (omega arith)) e) (omega arith) }

@@ -1,63 +1,41 @@
--- What a turn of an edit's loop does to a column: its own front is held back in step with the list, so each law is one induction.
+-- What is copied within a column where a value is put in or taken out, against the list that is meant.
 use mathlib.Core.Path.{◌≡◌, refl, ap}
-use mathlib.Core.List.{List, [], ◌∷◌}
-use Prim.Native.Nat.{ℕ, zero, suc, ◌≤◌, ◌<◌}
+use mathlib.Core.List.{List, [], ◌∷◌, ◌++◌}
+use Prim.Native.Nat.{ℕ, zero, suc, ◌+◌, ◌-◌, ◌≤◌, ◌<◌}
 use native.Mathlib.Nat.{not-suc-le-zero, le_of_suc-le-suc}
-use lib.ListN.{length, get_or, set, take}
+use native.Mathlib.Omega.{arith}
+use lib.ListN.{length, set, take, drop}
+use lib.Seq.{length-take-le}
+use Rattle.std.specs.List.{copy_within}
 use Rattle.tables.specs.Columns.{laid, inserted_at, removed_at}
 
-module _ {A : Type 0} (d : A) where
-  -- moved up so far: the place that is free, i, still has what stood there
-  abbrev pub Opened : ℕ → ℕ → List A → List A → Type 0
-  Opened live i m n = n ≡ laid (inserted_at i (get_or m i d) (take live m)) m
-
-  pub opens : (live : ℕ) (m : List A) → live < length m → Opened live live m m
+module _ {A : Type 0} where
+  opened : (at n live : ℕ) (x : A) (m : List A) → live ≡ at + n → live < length m
+      → set (take (suc at) m ++ take n (drop at m) ++ drop (suc live) m) at x ≡ laid (inserted_at at x (take live m)) m
   unfolding laid inserted_at
-  opens live [] h = absurd (not-suc-le-zero h)
-  opens zero (y ∷ m) h = refl
-  opens (suc live) (y ∷ m) h = ap (λ (t : List A). y ∷ t) (opens live m (le_of_suc-le-suc h))
+  opened at n live x [] e h = absurd (not-suc-le-zero h)
+  opened zero n live x (y ∷ m) e h = let z : n ≡ live = omega arith in rw (z, length-take-le live (y ∷ m) (omega arith)) refl
+  opened (suc at) n zero x (y ∷ m) e h = absurd (omega arith)
+  opened (suc at) n (suc live) x (y ∷ m) e h = ap (λ (t : List A). y ∷ t) (opened at n live x m (omega arith) (le_of_suc-le-suc h))
 
-  up : (live i : ℕ) (z : A) (m : List A) → i < live → live < length m
-      → set (laid (inserted_at (suc i) z (take live m)) m) (suc i) (get_or (laid (inserted_at (suc i) z (take live m)) m) i d) ≡ laid (inserted_at i (get_or m i d) (take live m)) m
-  unfolding laid inserted_at
-  up live i z [] g h = absurd (not-suc-le-zero h)
-  up zero i z (y ∷ m) g h = absurd (not-suc-le-zero g)
-  up (suc live) zero z (y ∷ m) g h = refl
-  up (suc live) (suc i) z (y ∷ m) g h = ap (λ (t : List A). y ∷ t) (up live i z m (le_of_suc-le-suc g) (le_of_suc-le-suc h))
+  pub inserts : (at live : ℕ) (x : A) (m : List A) → at ≤ live → live < length m
+      → set (copy_within m at live (at + 1)) at x ≡ laid (inserted_at at x (take live m)) m
+  inserts at live x m g h =
+      let f : at + 1 ≡ suc at = omega arith in
+      let e : suc at + (live - at) ≡ suc live = omega arith in
+      rw (f, e) (opened at (live - at) live x m (omega arith) h)
 
-  pub opens_on : (live i j : ℕ) (m : List A) {n : List A} → i ≡ suc j → j < live → live < length m → Opened live i m n → Opened live j m (set n i (get_or n j d))
-  opens_on live i j m e g h o = rw (o, e) (up live j (get_or m (suc j) d) m g h)
-
-  pub filled : (live i : ℕ) (x z : A) (m : List A) → i ≤ live → live < length m → set (laid (inserted_at i z (take live m)) m) i x ≡ laid (inserted_at i x (take live m)) m
-  unfolding laid inserted_at
-  filled live zero x z m g h = refl
-  filled live (suc i) x z [] g h = absurd (not-suc-le-zero h)
-  filled zero (suc i) x z (y ∷ m) g h = absurd (not-suc-le-zero g)
-  filled (suc live) (suc i) x z (y ∷ m) g h = ap (λ (t : List A). y ∷ t) (filled live i x z m (le_of_suc-le-suc g) (le_of_suc-le-suc h))
-
-  -- moved down so far: as if place i were the last
-  abbrev pub Closed : ℕ → ℕ → List A → List A → Type 0
-  Closed at i m n = n ≡ laid (removed_at at (take (suc i) m)) m
-
-  pub closes : (at : ℕ) (m : List A) → at < length m → Closed at at m m
+  closed : (at n last : ℕ) (m : List A) → last ≡ at + n → last < length m
+      → take at m ++ take n (drop (suc at) m) ++ drop last m ≡ laid (removed_at at (take (suc last) m)) m
   unfolding laid removed_at
-  closes at [] h = absurd (not-suc-le-zero h)
-  closes zero (y ∷ m) h = refl
-  closes (suc at) (y ∷ m) h = ap (λ (t : List A). y ∷ t) (closes at m (le_of_suc-le-suc h))
+  closed at n last [] e h = absurd (not-suc-le-zero h)
+  closed zero n last (y ∷ m) e h = let z : n ≡ last = omega arith in rw (z, length-take-le last m (le_of_suc-le-suc h)) refl
+  closed (suc at) n zero (y ∷ m) e h = absurd (omega arith)
+  closed (suc at) n (suc last) (y ∷ m) e h = ap (λ (t : List A). y ∷ t) (closed at n last m (omega arith) (le_of_suc-le-suc h))
 
-  down_front : (i : ℕ) (y : A) (m : List A) → i < length m → set (laid (take i m) (y ∷ m)) i (get_or (laid (take i m) (y ∷ m)) (suc i) d) ≡ laid (take (suc i) m) (y ∷ m)
-  unfolding laid
-  down_front i y [] h = absurd (not-suc-le-zero h)
-  down_front zero y (z ∷ m) h = refl
-  down_front (suc i) y (z ∷ m) h = ap (λ (t : List A). z ∷ t) (down_front i z m (le_of_suc-le-suc h))
-
-  down : (at i : ℕ) (m : List A) → at ≤ i → suc i < length m
-      → set (laid (removed_at at (take (suc i) m)) m) i (get_or (laid (removed_at at (take (suc i) m)) m) (suc i) d) ≡ laid (removed_at at (take (suc (suc i)) m)) m
-  unfolding laid removed_at
-  down at i [] g h = absurd (not-suc-le-zero h)
-  down zero i (y ∷ m) g h = down_front i y m (le_of_suc-le-suc h)
-  down (suc at) zero (y ∷ m) g h = absurd (not-suc-le-zero g)
-  down (suc at) (suc i) (y ∷ m) g h = ap (λ (t : List A). y ∷ t) (down at i m (le_of_suc-le-suc g) (le_of_suc-le-suc h))
-
-  pub closes_on : (at i j : ℕ) (m : List A) {n : List A} → j ≡ suc i → at ≤ i → suc i < length m → Closed at i m n → Closed at j m (set n i (get_or n j d))
-  closes_on at i j m e g h o = rw (o, e) (down at i m g h)
+  pub removes : (at live : ℕ) (m : List A) → at < live → live ≤ length m → copy_within m (at + 1) live at ≡ laid (removed_at at (take live m)) m
+  removes at zero m g h = absurd (not-suc-le-zero g)
+  removes at (suc last) m g h =
+      let f : at + 1 ≡ suc at = omega arith in
+      let e : at + (suc last - suc at) ≡ last = omega arith in
+      rw (f, e) (closed at (suc last - suc at) last m (omega arith) h)

@@ -5,7 +5,7 @@ use mathlib.Core.List.{List}
 use Prim.Native.Nat.{ℕ, suc}
 use native.Mathlib.Omega.{arith}
 use lib.ListN.{length, set, length-set}
-use Rattle.tables.specs.declared.Slot.{Slot}
+use Rattle.std.specs.Prelude.{Ok, Err}
 use Rattle.tables.specs.Columns.{inserted_at, removed_at, ascending}
 use Rattle.tables.specs.Tables.{Table, put, without, channels, values, entries, slot_of}
 use Rattle.tables.proofs.Columns.{length_inserted, length_removed, length_beside, beside_first, beside_second}
@@ -27,7 +27,7 @@ module _ {A : Type 0} where
   holds_at {cs = cs} {vs = vs} e h k = rw e (holds cs vs h k)
 
   module _ (c i : ℕ) (cs : List ℕ) (vs : List A) {live : ℕ} (h : length cs ≡ live) (k : length vs ≡ live) (ascends : ascending cs ≡ true) where
-    module _ (slot : slot_of c cs ≡ Slot.At i) where
+    module _ (slot : slot_of c cs ≡ Ok i) where
       pub at_put_holds : (v : A) → Holds (put c v (entries cs vs)) cs (set vs i v) live
       at_put_holds v = holds_at (at_put c i cs slot vs (h ∙ sym k) ascends v) h (length-set vs i v ∙ k)
 
@@ -38,7 +38,7 @@ module _ {A : Type 0} where
           let q = length_removed i vs (omega (arith, w, h, k)) in
           holds_at (at_without c i cs slot vs (h ∙ sym k) ascends) (omega (arith, p, h, e)) (omega (arith, q, k, e))
 
-    module _ (slot : slot_of c cs ≡ Slot.Free i) where
+    module _ (slot : slot_of c cs ≡ Err i) where
       pub free_put_holds : (v : A) → Holds (put c v (entries cs vs)) (inserted_at i c cs) (inserted_at i v vs) (suc live)
       free_put_holds v =
           let w = free_within c i cs slot in

@@ -8,7 +8,8 @@ use lib.Dec.{eqb, ltb}
 use lib.ListN.{length, get_or, set, take}
 use lib.Seq.{length-take-le}
 use borrow.Author.Tests.{eqb-true, eqb-false, ltb-true, ltb-false, lt-ltb}
-use Rattle.tables.specs.declared.Slot.{Slot}
+use Rattle.tables.specs.Tables.{Slot}
+use Rattle.std.specs.Prelude.{Ok, Err}
 use Rattle.tables.specs.Columns.{inserted_at, removed_at, beside, above, ascending}
 use Rattle.tables.specs.Tables.{Table, none, found, get, without, put, channels, entries, further, slot_of}
 use Rattle.tables.proofs.Ascending.{ascending_rest}
@@ -28,20 +29,20 @@ data Lacks (c : ℕ) : List ℕ → ℕ → Type 0 where
 
 -- what a slot says
 abbrev Says : ℕ → List ℕ → Slot → Type 0
-Says c l (Slot.At i) = Stands c l i
-Says c l (Slot.Free i) = Lacks c l i
+Says c l (Ok i) = Stands c l i
+Says c l (Err i) = Lacks c l i
 
 says_further : (c x : ℕ) (l : List ℕ) (s : Slot) → x < c → Says c l s → Says c (x ∷ l) (further s)
 unfolding further
-says_further c x l (Slot.At i) h s = past h s
-says_further c x l (Slot.Free i) h s = beyond h s
+says_further c x l (Ok i) h s = past h s
+says_further c x l (Err i) h s = beyond h s
 
 says : (c : ℕ) (l : List ℕ) → Says c l (slot_of c l)
 unfolding slot_of
 says c [] = end
 says c (x ∷ l) = go (ltb x c) refl (eqb x c) refl (says c l)
   where
-    go : (a : Bool) → ltb x c ≡ a → (b : Bool) → eqb x c ≡ b → Says c l (slot_of c l) → Says c (x ∷ l) (cond a (further (slot_of c l)) (cond b (Slot.At 0) (Slot.Free 0)))
+    go : (a : Bool) → ltb x c ≡ a → (b : Bool) → eqb x c ≡ b → Says c l (slot_of c l) → Says c (x ∷ l) (cond a (further (slot_of c l)) (cond b (Ok 0) (Err 0)))
     go true e b f s = says_further c x l (slot_of c l) (ltb-true x c e) s
     go false e true f s = here (eqb-true x c f)
     go false e false f s = before {x = x} (let n : x ≡ c → ⊥ = eqb-false x c f in omega (arith, ltb-false x c e, n))
@@ -110,7 +111,7 @@ module _ {A : Type 0} where
     lacks_put v (w ∷ vs) (beyond {x} {l} h s) e a = put_over c v (x, w) (entries l vs) h ∙ onto (x, w) (lacks_put v vs s (omega arith) (ascending_rest x l a))
 
 -- the channel's place, c at place i of cs
-module _ (c i : ℕ) (cs : List ℕ) (slot : slot_of c cs ≡ Slot.At i) where
+module _ (c i : ℕ) (cs : List ℕ) (slot : slot_of c cs ≡ Ok i) where
   stands : Stands c cs i
   stands = subst (Says c cs) slot (says c cs)
 
@@ -129,7 +130,7 @@ module _ (c i : ℕ) (cs : List ℕ) (slot : slot_of c cs ≡ Slot.At i) where
       at_without = stands_without vs stands sizes ascends
 
 -- no channel: c would go to place i of cs
-module _ (c i : ℕ) (cs : List ℕ) (slot : slot_of c cs ≡ Slot.Free i) where
+module _ (c i : ℕ) (cs : List ℕ) (slot : slot_of c cs ≡ Err i) where
   lacks : Lacks c cs i
   lacks = subst (Says c cs) slot (says c cs)
 
@@ -148,8 +149,8 @@ module _ (c i : ℕ) (cs : List ℕ) (slot : slot_of c cs ≡ Slot.Free i) where
 
 -- the same of a column's live places
 module _ (c i live : ℕ) (m : List ℕ) (fits : live ≤ length m) where
-  pub at_live : slot_of c (take live m) ≡ Slot.At i → i < live
+  pub at_live : slot_of c (take live m) ≡ Ok i → i < live
   at_live slot = omega (arith, at_within c i (take live m) slot, length-take-le live m fits)
 
-  pub free_live : slot_of c (take live m) ≡ Slot.Free i → i ≤ live
+  pub free_live : slot_of c (take live m) ≡ Err i → i ≤ live
   free_live slot = omega (arith, free_within c i (take live m) slot, length-take-le live m fits)

@@ -5,15 +5,15 @@ use Prim.Native.Nat.{ℕ, zero, suc, ◌+◌, ◌-◌, ◌≤◌, ◌<◌, min}
 use native.Mathlib.Nat.{not-suc-le-zero, le_of_suc-le-suc}
 use native.Mathlib.Decide.{dec_lt}
 use native.Mathlib.Omega.{arith}
-use lib.ListN.{length, get_or, take}
+use lib.ListN.{length, get_or}
 use borrow.Author.Tests.{lt-ltb, le-ltb, eq-eqb, ne_eqb}
-use Rattle.tables.specs.declared.Slot.{Slot}
+use Rattle.std.specs.Prelude.{Ok, Err}
 use Rattle.tables.specs.Search.{Rising, Near}
 use Rattle.tables.specs.Tables.{further, slot_of}
 
-module _ (l : List ℕ) (live c : ℕ) (rise : Rising l live) (r room m n rest : ℕ) (near : Near l live c r room) where
+module _ (l : List ℕ) (c : ℕ) (rise : Rising l) (r room m n rest : ℕ) (near : Near l (length l) c r room) where
   -- place m is below c
-  pub up : n ≡ suc m → n ≤ live → min (r + room) live ≤ n + rest → get_or l m 0 < c → Near l live c n rest
+  pub up : n ≡ suc m → n ≤ length l → min (r + room) (length l) ≤ n + rest → get_or l m 0 < c → Near l (length l) c n rest
   up e g h lt =
       record {
         within = g;
@@ -26,7 +26,7 @@ module _ (l : List ℕ) (live c : ℕ) (rise : Rising l live) (r room m n rest :
       below k f (no p) = let q : k ≡ m = omega arith in rw q lt
 
   -- place m is not below c
-  pub down : m ≤ r + rest → c ≤ get_or l m 0 → Near l live c r rest
+  pub down : m ≤ r + rest → c ≤ get_or l m 0 → Near l (length l) c r rest
   down h ge =
       record {
         within = near.within;
@@ -34,31 +34,32 @@ module _ (l : List ℕ) (live c : ℕ) (rise : Rising l live) (r room m n rest :
         above = λ k f p. above k f p (dec_lt m k);
       }
     where
-      above : (k : ℕ) → r + rest ≤ k → k < live → Dec (m < k) → c ≤ get_or l k 0
+      above : (k : ℕ) → r + rest ≤ k → k < length l → Dec (m < k) → c ≤ get_or l k 0
       above k f p (yes q) = omega (arith, rise.rises m k q p)
       above k f p (no q) = let e : k ≡ m = omega arith in rw e ge
 
 -- channels that ascend are as far apart as their places, and further by the numbers between them that are free
-module _ (l : List ℕ) (live : ℕ) (rise : Rising l live) where
-  apart : (d i j : ℕ) → j ≡ i + d → j < live → get_or l i 0 + d ≤ get_or l j 0
+module _ (l : List ℕ) (rise : Rising l) where
+  apart : (d i j : ℕ) → j ≡ i + d → j < length l → get_or l i 0 + d ≤ get_or l j 0
   apart zero i j e h = let s : j ≡ i = omega arith in rw s (omega arith)
   apart (suc d) i j e h = omega (arith, apart d i (i + d) refl (omega arith), rise.rises (i + d) j (omega arith) h)
 
-  pub last_high : 0 < live → live ≤ get_or l (live - 1) 0 + 1
-  last_high h = omega (arith, apart (live - 1) 0 (live - 1) (omega arith) (omega arith))
+  pub last_high : 0 < length l → length l ≤ get_or l (length l - 1) 0 + 1
+  last_high h = omega (arith, apart (length l - 1) 0 (length l - 1) (omega arith) (omega arith))
 
-  pub by_number : (c free r room : ℕ) → 0 < live → free ≡ get_or l (live - 1) 0 + 1 - live → free ≤ room → r ≡ min (c - free) live → Near l live c r room
+  pub by_number : (c free r room : ℕ) → 0 < length l → free ≡ get_or l (length l - 1) 0 + 1 - length l → free ≤ room → r ≡ min (c - free) (length l)
+      → Near l (length l) c r room
   by_number c free r room h e few is =
       record {
         within = omega arith;
-        below = λ k f. omega (arith, apart (live - 1 - k) k (live - 1) (omega arith) (omega arith));
+        below = λ k f. omega (arith, apart (length l - 1 - k) k (length l - 1) (omega arith) (omega arith));
         above = λ k f p. omega (arith, apart k 0 k (omega arith) (omega arith));
       }
 
 -- the live places end at m, r of them below c: one more
 module _ (l : List ℕ) (c r m n : ℕ) (near : Near l m c r 0) (next : n ≡ suc m) where
-  pub counted : (live s : ℕ) → Rising l live → m < live → s ≡ suc r → get_or l m 0 < c → Near l n c s 0
-  counted live s rise h e lt =
+  pub counted : (s : ℕ) → Rising l → m < length l → s ≡ suc r → get_or l m 0 < c → Near l n c s 0
+  counted s rise h e lt =
       record {
         within = omega (arith, near.within);
         below = λ k f. below k f (dec_lt k m);
@@ -96,26 +97,24 @@ module _ (l : List ℕ) (live c r room : ℕ) (near : Near l live c r room) wher
   pub back : (s : ℕ) → s ≤ r → min (r + room) live ≤ s + room → Near l live c s room
   back s h g = record { within = omega (arith, near.within); below = λ k f. near.below k (omega arith); above = λ k f p. near.above k (omega arith) p }
 
-slot_at : (l : List ℕ) (n c i : ℕ) → n ≤ length l → i < n → ((k : ℕ) → k < i → get_or l k 0 < c) → get_or l i 0 ≡ c → slot_of c (take n l) ≡ Slot.At i
+slot_at : (l : List ℕ) (c i : ℕ) → i < length l → ((k : ℕ) → k < i → get_or l k 0 < c) → get_or l i 0 ≡ c → slot_of c l ≡ Ok i
 unfolding slot_of further
-slot_at l zero c i g h b e = absurd (not-suc-le-zero h)
-slot_at [] (suc n) c i g h b e = absurd (not-suc-le-zero g)
-slot_at (x ∷ l) (suc n) c zero g h b e = rw (le-ltb x c (omega arith), eq-eqb x c e) refl
-slot_at (x ∷ l) (suc n) c (suc i) g h b e =
-    rw (lt-ltb x c (b 0 (omega arith)), slot_at l n c i (le_of_suc-le-suc g) (le_of_suc-le-suc h) (λ k p. b (suc k) (omega arith)) e) refl
+slot_at [] c i h b e = absurd (not-suc-le-zero h)
+slot_at (x ∷ l) c zero h b e = rw (le-ltb x c (omega arith), eq-eqb x c e) refl
+slot_at (x ∷ l) c (suc i) h b e =
+    rw (lt-ltb x c (b 0 (omega arith)), slot_at l c i (le_of_suc-le-suc h) (λ k p. b (suc k) (omega arith)) e) refl
 
-slot_free : (l : List ℕ) (n c i : ℕ) → n ≤ length l → i ≤ n → ((k : ℕ) → k < i → get_or l k 0 < c) → (i < n → c < get_or l i 0) → slot_of c (take n l) ≡ Slot.Free i
+slot_free : (l : List ℕ) (c i : ℕ) → i ≤ length l → ((k : ℕ) → k < i → get_or l k 0 < c) → (i < length l → c < get_or l i 0) → slot_of c l ≡ Err i
 unfolding slot_of further
-slot_free l zero c i g h b a = let e : i ≡ 0 = omega arith in rw e refl
-slot_free [] (suc n) c i g h b a = absurd (not-suc-le-zero g)
-slot_free (x ∷ l) (suc n) c zero g h b a =
+slot_free [] c i h b a = let e : i ≡ 0 = omega arith in rw e refl
+slot_free (x ∷ l) c zero h b a =
     let f : c < x = a (omega arith) in rw (le-ltb x c (omega arith), ne_eqb x c (λ e. omega arith)) refl
-slot_free (x ∷ l) (suc n) c (suc i) g h b a =
-    rw (lt-ltb x c (b 0 (omega arith)), slot_free l n c i (le_of_suc-le-suc g) (le_of_suc-le-suc h) (λ k p. b (suc k) (omega arith)) (λ p. a (omega arith))) refl
+slot_free (x ∷ l) c (suc i) h b a =
+    rw (lt-ltb x c (b 0 (omega arith)), slot_free l c i (le_of_suc-le-suc h) (λ k p. b (suc k) (omega arith)) (λ p. a (omega arith))) refl
 
-module _ (l : List ℕ) (live c i : ℕ) (fits : live ≤ length l) (near : Near l live c i 0) where
-  pub ends_at : i < live → get_or l i 0 ≡ c → Slot.At i ≡ slot_of c (take live l)
-  ends_at h e = sym (slot_at l live c i fits h near.below e)
+module _ (l : List ℕ) (c i : ℕ) (near : Near l (length l) c i 0) where
+  pub ends_at : i < length l → get_or l i 0 ≡ c → Ok i ≡ slot_of c l
+  ends_at h e = sym (slot_at l c i h near.below e)
 
-  pub ends_free : (i < live → get_or l i 0 ≡ c → ⊥) → Slot.Free i ≡ slot_of c (take live l)
-  ends_free n = sym (slot_free l live c i fits near.within near.below (λ h. let m : get_or l i 0 ≡ c → ⊥ = n h in omega (arith, near.above i (omega arith) h, m)))
+  pub ends_free : (i < length l → get_or l i 0 ≡ c → ⊥) → Err i ≡ slot_of c l
+  ends_free n = sym (slot_free l c i near.within near.below (λ h. let m : get_or l i 0 ≡ c → ⊥ = n h in omega (arith, near.above i (omega arith) h, m)))

@@ -2,13 +2,12 @@
 use Rattle.std.specs.Prelude.{List, ℕ, ◌+◌, ◌≤◌, ◌<◌, length, get_or}
 use Rattle.types.specs.Types.{most_channels}
 
--- the live channels ascend
-pub record Rising (l : List ℕ) (live : ℕ) : Type 0 where
-  pub fits : live ≤ length l
-  pub few : live ≤ most_channels
-  pub rises : (i j : ℕ) → i < j → j < live → get_or l i 0 < get_or l j 0
+-- live channels, which ascend
+pub record Rising (l : List ℕ) : Type 0 where
+  pub few : length l ≤ most_channels
+  pub rises : (i j : ℕ) → i < j → j < length l → get_or l i 0 < get_or l j 0
 
--- the first r of the live channels are below c, and those from r + room on are not
+-- of the first `live` channels, r are below c, and those from r + room on are not
 pub record Near (l : List ℕ) (live c r room : ℕ) : Type 0 where
   pub within : r ≤ live
   pub below : (k : ℕ) → k < r → get_or l k 0 < c

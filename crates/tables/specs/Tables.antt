@@ -1,6 +1,5 @@
 -- What a table means: each channel with what it has, by ascending channel. The Rust's hash maps, in an order.
-use Rattle.std.specs.Prelude.{cond, List, [], ◌∷◌, map, ℕ, suc, eqb, ltb}
-use Rattle.tables.specs.declared.Slot.{Slot}
+use Rattle.std.specs.Prelude.{cond, List, [], ◌∷◌, map, ℕ, suc, eqb, ltb, Result, Ok, Err}
 use Rattle.tables.specs.Columns.{beside}
 
 abbrev pub Table : Type 0 → Type 0
@@ -40,12 +39,16 @@ module _ {A : Type 0} where
   abbrev pub entries : List ℕ → List A → Table A
   entries cs vs = beside cs vs
 
+-- as a binary search tells it: the place where a channel stands, or else where it would go
+abbrev pub Slot : Type 0
+Slot = Result ℕ ℕ
+
 -- one place further
 unfoldable pub further : Slot → Slot
-further (Slot.At i) = Slot.At (suc i)
-further (Slot.Free i) = Slot.Free (suc i)
+further (Ok i) = Ok (suc i)
+further (Err i) = Err (suc i)
 
 -- where a channel stands in an ascending column, or would go
 unfoldable pub slot_of : ℕ → List ℕ → Slot
-slot_of c [] = Slot.Free 0
-slot_of c (x ∷ l) = cond (ltb x c) (further (slot_of c l)) (cond (eqb x c) (Slot.At 0) (Slot.Free 0))
+slot_of c [] = Err 0
+slot_of c (x ∷ l) = cond (ltb x c) (further (slot_of c l)) (cond (eqb x c) (Ok 0) (Err 0))

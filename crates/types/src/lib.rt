@@ -28,36 +28,39 @@ pub const MAX_BUFFERED_PARTIAL_BITS: u64 = 536870912;
 // The serialized maximum of a close reason: the Rust's ChannelCloseReason::MAX.
 pub const CHANNEL_CLOSE_REASON_MAX: u32 = 15;
 
-#[derive(Clone, Copy)]
+#[derive(Clone, Copy, Debug, PartialEq, Eq)]
 pub enum ChannelCloseReason {
     Destroyed,
     Dormancy,
 }
 
-// The number that a reason is written as.
-pub fn to_raw(reason: ChannelCloseReason) -> u32
-    ensures { (result ≡ reason_word reason) × (result < close_reason_maximum) }
-{
-    match reason {
-        ChannelCloseReason::Destroyed => 0,
-        ChannelCloseReason::Dormancy => 1,
+// The Rust's names. `From` would hide that a number which is no reason's gives one all the same.
+impl ChannelCloseReason {
+    // The number that a reason is written as.
+    #[tactic(auto, using(crate::proofs::Reasons::maximum_least))]
+    pub fn to_raw(self) -> u32
+        ensures { (result ≡ reason_word self) × (result < close_reason_maximum) }
+    {
+        match self {
+            ChannelCloseReason::Destroyed => 0,
+            ChannelCloseReason::Dormancy => 1,
+        }
+    }
+
+    // Only raw 1 is Dormancy.
+    #[tactic(auto, unfolding(crate::specs::Types::reason_of))]
+    pub fn from_raw(raw: u64) -> Self
+        ensures { result ≡ reason_of raw }
+    {
+        match raw {
+            1 => ChannelCloseReason::Dormancy,
+            _ => ChannelCloseReason::Destroyed,
+        }
     }
 }
 
-// Only raw 1 is Dormancy: the Rust's ChannelCloseReason::from_raw.
-pub fn from_raw(raw: u64) -> ChannelCloseReason
-    ensures { result ≡ reason_of raw }
-{
-    if raw == 1 {
-        return ChannelCloseReason::Dormancy;
-    }
-    ChannelCloseReason::Destroyed
-}
-
-// The Rust has these four in an Option; `None` is its none.
-#[derive(Clone, Copy)]
+#[derive(Clone, Copy, Debug, PartialEq, Eq)]
 pub enum PartialSequenceKind {
-    None,
     MissingInitial,
     OverlappingInitial,
     MismatchedContinuation,
@@ -83,7 +86,7 @@ pub struct RawBunchHeader {
     pub payload_bit_count: u32,
     pub payload_bit_offset: u64,
     pub has_partial_error: bool,
-    pub partial_error_kind: PartialSequenceKind,
+    pub partial_error_kind: Option<PartialSequenceKind>,
     pub is_partial_completed: bool,
     pub has_channel_limit_error: bool,
 }

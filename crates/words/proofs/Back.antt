@@ -4,6 +4,7 @@ use mathlib.Core.Bool.{Bool, true, false, not}
 use Prim.Native.Nat.{◌%◌, ◌^◌}
 use native.Mathlib.Omega.{arith}
 use lib.Dec.{eqb}
+use Rattle.std.specs.Prelude.{Option, Some, None}
 use lib.IntN.{ℤ}
 use mir.Syntax.{w32}
 use mir.Val.{SFits, of_z, bool_byte}
@@ -21,13 +22,13 @@ signed_back z f =
     let e : of_z w32 z % 2 ^ 32 ≡ of_z w32 z = omega (arith, (of_z_fits w32 z f).fits) in
     ap signed e ∙ signed_word z f
 
-kind_back : (k : PartialSequenceKind) → kind_of (kind_word k) ≡ k
+kind_back : (k : Option PartialSequenceKind) → kind_of (kind_word k) ≡ k
 unfolding kind_of
-kind_back PartialSequenceKind.None = refl
-kind_back PartialSequenceKind.MissingInitial = refl
-kind_back PartialSequenceKind.OverlappingInitial = refl
-kind_back PartialSequenceKind.MismatchedContinuation = refl
-kind_back PartialSequenceKind.NonByteAlignedFragment = refl
+kind_back None = refl
+kind_back (Some PartialSequenceKind.MissingInitial) = refl
+kind_back (Some PartialSequenceKind.OverlappingInitial) = refl
+kind_back (Some PartialSequenceKind.MismatchedContinuation) = refl
+kind_back (Some PartialSequenceKind.NonByteAlignedFragment) = refl
 
 flag_back : (b : Bool) → not (eqb (bool_byte b) 0) ≡ b
 flag_back true = refl

@@ -1,5 +1,5 @@
 -- A bunch's header as twenty words, and the header that any words say.
-use Rattle.std.specs.Prelude.{Bool, not, cond, List, [], ◌∷◌, ℕ, ◌%◌, ◌^◌, eqb, get_or}
+use Rattle.std.specs.Prelude.{Bool, not, cond, List, [], ◌∷◌, ℕ, ◌%◌, ◌^◌, eqb, get_or, Option, Some, None}
 use Rattle.std.specs.Int.{w32}
 use mir.Val.{of_z, bool_byte}
 use Rattle.bitio_bits.specs.Floats.{signed}
@@ -7,12 +7,12 @@ use Rattle.types.specs.Types.{reason_word, reason_of}
 use Rattle.types.specs.declared.PartialSequenceKind.{PartialSequenceKind}
 use Rattle.types.specs.declared.RawBunchHeader.{RawBunchHeader}
 
-abbrev pub kind_word : PartialSequenceKind → ℕ
-kind_word PartialSequenceKind.None = 0
-kind_word PartialSequenceKind.MissingInitial = 1
-kind_word PartialSequenceKind.OverlappingInitial = 2
-kind_word PartialSequenceKind.MismatchedContinuation = 3
-kind_word PartialSequenceKind.NonByteAlignedFragment = 4
+abbrev pub kind_word : Option PartialSequenceKind → ℕ
+kind_word None = 0
+kind_word (Some PartialSequenceKind.MissingInitial) = 1
+kind_word (Some PartialSequenceKind.OverlappingInitial) = 2
+kind_word (Some PartialSequenceKind.MismatchedContinuation) = 3
+kind_word (Some PartialSequenceKind.NonByteAlignedFragment) = 4
 
 -- the twenty fields in the header's order, signed ones as their two's complement of 32 bits
 abbrev pub header_words : RawBunchHeader → List ℕ
@@ -40,12 +40,12 @@ header_words h =
     ∷ []
 
 -- a word that is no kind's is none
-unfoldable pub kind_of : ℕ → PartialSequenceKind
+unfoldable pub kind_of : ℕ → Option PartialSequenceKind
 kind_of w =
-    cond (eqb w 1) PartialSequenceKind.MissingInitial
-    (cond (eqb w 2) PartialSequenceKind.OverlappingInitial
-    (cond (eqb w 3) PartialSequenceKind.MismatchedContinuation
-    (cond (eqb w 4) PartialSequenceKind.NonByteAlignedFragment PartialSequenceKind.None)))
+    cond (eqb w 1) (Some PartialSequenceKind.MissingInitial)
+    (cond (eqb w 2) (Some PartialSequenceKind.OverlappingInitial)
+    (cond (eqb w 3) (Some PartialSequenceKind.MismatchedContinuation)
+    (cond (eqb w 4) (Some PartialSequenceKind.NonByteAlignedFragment) None)))
 
 -- a flag is any word but 0
 abbrev pub flag_at : List ℕ → ℕ → Bool

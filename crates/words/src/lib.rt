@@ -5,21 +5,22 @@ ghost use Rattle.std.specs.Prelude.{◌≡◌};
 ghost use Rattle.words.specs.Words.{kind_word, header_words, kind_of, header_from};
 
 use bitio_bits::inner::signed;
-use types::{PartialSequenceKind, RawBunchHeader};
+use types::{ChannelCloseReason, PartialSequenceKind, RawBunchHeader};
 
 pub mod inner;
 
+// An array, since C reads and lends it: so the ways there and back are functions, and no `From`.
 pub type HeaderWords = [u64; 20];
 
-pub fn kind_word(k: PartialSequenceKind) -> u64
-    ensures { result ≡ kind_word k }
+pub fn kind_word(kind: Option<PartialSequenceKind>) -> u64
+    ensures { result ≡ kind_word kind }
 {
-    match k {
-        PartialSequenceKind::None => 0,
-        PartialSequenceKind::MissingInitial => 1,
-        PartialSequenceKind::OverlappingInitial => 2,
-        PartialSequenceKind::MismatchedContinuation => 3,
-        PartialSequenceKind::NonByteAlignedFragment => 4,
+    match kind {
+        None => 0,
+        Some(PartialSequenceKind::MissingInitial) => 1,
+        Some(PartialSequenceKind::OverlappingInitial) => 2,
+        Some(PartialSequenceKind::MismatchedContinuation) => 3,
+        Some(PartialSequenceKind::NonByteAlignedFragment) => 4,
     }
 }
 
@@ -31,7 +32,7 @@ pub fn of_header(h: RawBunchHeader) -> HeaderWords
     let bits = h.payload_bit_count as u64;
     let id = signed::to_word(h.packet_id) as u64;
     let sequence = signed::to_word(h.ch_sequence) as u64;
-    let closed = types::to_raw(close_reason) as u64;
+    let closed = close_reason.to_raw() as u64;
     let wrong = kind_word(partial_error_kind);
     [
         id,
@@ -57,22 +58,17 @@ pub fn of_header(h: RawBunchHeader) -> HeaderWords
     ]
 }
 
-fn kind_of(w: u64) -> PartialSequenceKind
+#[tactic(auto, unfolding(crate::specs::Words::kind_of))]
+fn kind_of(w: u64) -> Option<PartialSequenceKind>
     ensures { result ≡ kind_of w }
 {
-    if w == 1 {
-        return PartialSequenceKind::MissingInitial;
+    match w {
+        1 => Some(PartialSequenceKind::MissingInitial),
+        2 => Some(PartialSequenceKind::OverlappingInitial),
+        3 => Some(PartialSequenceKind::MismatchedContinuation),
+        4 => Some(PartialSequenceKind::NonByteAlignedFragment),
+        _ => None,
     }
-    if w == 2 {
-        return PartialSequenceKind::OverlappingInitial;
-    }
-    if w == 3 {
-        return PartialSequenceKind::MismatchedContinuation;
-    }
-    if w == 4 {
-        return PartialSequenceKind::NonByteAlignedFragment;
-    }
-    PartialSequenceKind::None
 }
 
 pub fn header_of(w: HeaderWords) -> RawBunchHeader
@@ -80,7 +76,7 @@ pub fn header_of(w: HeaderWords) -> RawBunchHeader
 {
     let packet_id = signed::of_word((w[0] % 4294967296) as u32);
     let ch_sequence = signed::of_word((w[12] % 4294967296) as u32);
-    let close_reason = types::from_raw(w[13]);
+    let close_reason = ChannelCloseReason::from_raw(w[13]);
     let partial_error_kind = kind_of(w[17]);
     RawBunchHeader {
         packet_id,

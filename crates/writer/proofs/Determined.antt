@@ -3,14 +3,14 @@ use Prim.Native.Nat.{ℕ}
 use mathlib.Core.Path.{◌≡◌, refl, ap}
 use mathlib.Core.Bool.{cond}
 use mathlib.Core.List.{List}
+use Rattle.std.proofs.Common.{Ok, Err}
 use lib.Dec.{eqb}
 use lib.ListN.{get_or}
 use Rattle.bitio_window.specs.Refusals.{Refusal, beyond, payload_too_long, payload_short, unwritable, no_room}
 use Rattle.bitio_window.specs.Parse.{Result, value, refusal}
 use Rattle.bitio.proofs.Determined.{determined}
 use Rattle.writer.specs.declared.WriteError.{WriteError}
-use Rattle.writer.specs.declared.Written.{Written}
-use Rattle.writer.specs.Answers.{write_paper, WriteReply, of_written, replied}
+use Rattle.writer.specs.Answers.{write_paper, WriteReply, Written, of_written, replied}
 
 -- a refusal by its number and what it returns
 unwrite : Refusal → WriteError
@@ -29,12 +29,12 @@ unwrite_paper WriteError.Unwritable = refl
 unwrite_paper (WriteError.NoRoom b) = refl
 
 abbrev back : Result ℕ → Written
-back (value bit) = Written.To (record { 0 = bit })
-back (refusal r) = Written.Refused (unwrite r)
+back (value bit) = Ok (record { 0 = bit })
+back (refusal r) = Err (unwrite r)
 
 written_back : (r : Written) → back (of_written r) ≡ r
-written_back (Written.To bit) = refl
-written_back (Written.Refused e) = ap Written.Refused (unwrite_paper e)
+written_back (Ok bit) = refl
+written_back (Err e) = ap Err (unwrite_paper e)
 
 module _ (r s : Written) (p q : List ℕ) (e : replied r p ≡ replied s q) where
   pub written_determined : r ≡ s

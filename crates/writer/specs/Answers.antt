@@ -1,11 +1,11 @@
 -- What the writer's calls answer, and what they leave in the lent packet.
-use Rattle.std.specs.Prelude.{ℕ, ◌+◌, ◌*◌, ◌/◌, min, Bool, true, cond, List, [], ◌∷◌, ltb, length}
+use Rattle.std.specs.Prelude.{ℕ, ◌+◌, ◌*◌, ◌/◌, min, Bool, true, cond, List, [], ◌∷◌, ltb, length, Ok, Err, Result as Returned}
 use Rattle.types.specs.Types.{longest_packet, longest_payload}
+use Rattle.bitio_window.specs.declared.PacketBit.{PacketBit}
 use Rattle.bitio_window.specs.Refusals.{Refusal, beyond, payload_too_long, payload_short, unwritable, no_room}
 use Rattle.bitio_window.specs.Parse.{Result, value, refusal}
 use Rattle.types.specs.declared.RawBunchHeader.{RawBunchHeader}
 use Rattle.writer.specs.declared.WriteError.{WriteError}
-use Rattle.writer.specs.declared.Written.{Written}
 use Rattle.writer_spelling.specs.Bits.{put_bits}
 use Rattle.writer_spelling.specs.Header.{bunch_bits, writable}
 
@@ -22,9 +22,13 @@ pub record WriteReply : Type 0 where
   pub answer : Result ℕ
   pub packet : List ℕ
 
+-- up to which bit the packet is written, or why nothing was
+abbrev pub Written : Type 0
+Written = Returned PacketBit WriteError
+
 abbrev pub of_written : Written → Result ℕ
-of_written (Written.To bit) = value bit.0
-of_written (Written.Refused e) = refusal (write_paper e)
+of_written (Ok bit) = value bit.0
+of_written (Err e) = refusal (write_paper e)
 
 abbrev pub replied : Written → List ℕ → WriteReply
 replied r p = record { answer = of_written r; packet = p }

@@ -2,8 +2,8 @@
 ghost use Rattle.std.specs.Prelude.{◌≡◌};
 ghost use Rattle.writer.specs.Answers.{replied, write_bunch, close_packet};
 
+use crate::WriteError;
 use crate::inner::{append, push, room};
-use crate::{WriteError, Written};
 use bitio_window::PacketBit;
 use types::{MAX_PAYLOAD_BITS, RawBunchHeader};
 use writer_spelling::inner::{Bits, fields};
@@ -15,24 +15,18 @@ pub fn write_bunch(
     count: u64,
     packet: &mut [u8],
     at: PacketBit,
-) -> Written
+) -> Result<PacketBit, WriteError>
     ensures { replied result packet.new ≡ write_bunch header payload.now count packet.old at.0 }
 {
-    let size = packet.len();
-    if room::past(size, at.0) {
-        return Written::Refused(WriteError::CursorPastRoom {
-            position: at.0,
-            available: 8 * size as u64,
-        });
-    }
+    room::reached(packet.len(), at.0)?;
     if !fields::writable(header) {
-        return Written::Refused(WriteError::Unwritable);
+        return Err(WriteError::Unwritable);
     }
     if count > MAX_PAYLOAD_BITS {
-        return Written::Refused(WriteError::PayloadTooLong { count });
+        return Err(WriteError::PayloadTooLong { count });
     }
     if room::past(payload.len(), count) {
-        return Written::Refused(WriteError::PayloadShort { count });
+        return Err(WriteError::PayloadShort { count });
     }
     append::append(
         fields::fields_of(header, count as u32),
@@ -43,21 +37,11 @@ pub fn write_bunch(
 }
 
 // The end mark and zeros to its byte's end: 5 or 17 where there is no room for it.
-pub fn close_packet(packet: &mut [u8], at: PacketBit) -> Written
+pub fn close_packet(packet: &mut [u8], at: PacketBit) -> Result<PacketBit, WriteError>
     ensures { replied result packet.new ≡ close_packet packet.old at.0 }
 {
-    let size = packet.len();
-    if room::past(size, at.0) {
-        return Written::Refused(WriteError::CursorPastRoom {
-            position: at.0,
-            available: 8 * size as u64,
-        });
-    }
-    if room::none_for(size, at.0, 1) {
-        return Written::Refused(WriteError::NoRoom {
-            bits: room::bits_with(at.0, 1),
-        });
-    }
+    room::reached(packet.len(), at.0)?;
+    room::found(packet.len(), at.0, 1)?;
     push::push(packet, at.0, Bits { word: 1, count: 1 });
-    Written::To(PacketBit(8 * (at.0 / 8 + 1)))
+    Ok(PacketBit(8 * (at.0 / 8 + 1)))
 }

@@ -13,11 +13,9 @@ pub fn store(target: &mut [u8], at: usize, word: u64, m: usize)
     ensures { target.new ≡ stored target.old at word m }
 {
     let mut rest = word;
-    let mut j = 0;
-    while j < m {
+    for j in 0..m {
         target[at + j] = (rest % 256) as u8;
         rest /= 256;
-        j += 1;
     }
 }
 
@@ -27,18 +25,12 @@ pub fn copy_bits(bytes: &[u8], at: PacketBit, count: u64, target: &mut [u8])
         × (length bytes.now ≤ largest_data) }
     ensures { target.new ≡ copied target.old bytes.now at.0 count }
 {
-    let mut i: usize = 0;
-    let mut left = count;
-    while left >= 64 {
-        store(
-            target,
-            i,
-            words::word_at(bytes, PacketBit(at.0 + 8 * i as u64)),
-            8,
-        );
-        i += 8;
-        left -= 64;
+    let whole = (count / 64) as usize;
+    for k in 0..whole {
+        let word = words::word_at(bytes, PacketBit(at.0 + 64 * k as u64));
+        store(target, 8 * k, word, 8);
     }
-    let last = words::bits_at(bytes, PacketBit(at.0 + 8 * i as u64), left);
-    store(target, i, last, ((left + 7) / 8) as usize);
+    let left = count % 64;
+    let last = words::bits_at(bytes, PacketBit(at.0 + (count - left)), left);
+    store(target, 8 * whole, last, left.div_ceil(8) as usize);
 }

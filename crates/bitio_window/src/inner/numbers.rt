@@ -1,84 +1,43 @@
 // Packed and serialized numbers for the project's own crates: what the tests before a read show is required.
 ghost use Rattle.std.specs.Prelude.{◌≡◌, ◌+◌, ◌-◌, ◌≤◌, ◌<◌, ◌^◌, leb};
-ghost use Rattle.bitio_window.specs.Refusals.{place_of, too_few_bits, endless, too_large};
-ghost use Rattle.bitio_window.specs.Parse.{refused, advanced};
 ghost use Rattle.bitio_window.specs.Numbers.{packed, log2, serialized};
 ghost use Rattle.bitio_window.specs.Widths.{serialized_width};
-ghost use Rattle.bitio_window.specs.Answers.{of_u32};
+ghost use Rattle.bitio_window.specs.Answers.{answer};
 ghost use Rattle.bitio_window.specs.Sound.{Sound};
 
-use crate::inner::{advance, packet_bit, too_few_bits, words};
-use crate::{BitError, U32, U32Read, Window, place_of};
+use crate::inner::words;
+use crate::{BitError, Window, place_of};
 use bitio_bits::inner::arithmetic::only_if;
 use bitio_bits::inner::masks;
 
-fn short_u32(w: Window, requested: u64) -> U32Read
-    ensures { (of_u32 result ≡ refused (too_few_bits (place_of w) w.length requested) w) × (result.next ≡ w) }
-{
-    U32Read {
-        answer: U32::Refused(too_few_bits(w, requested)),
-        next: w,
-    }
-}
-
-// 2 and 3, forty bits past the number's start.
-fn endless_number(w: Window) -> U32Read
-    requires { 40 ≤ w.length - w.position.0 }
-    ensures { (of_u32 result ≡ refused (endless (place_of w)) (advanced w 40)) × (result.next ≡ advanced w 40) }
-{
-    U32Read {
-        answer: U32::Refused(BitError::MalformedIntPacked {
-            position: place_of(w),
-        }),
-        next: advance(w, 40),
-    }
-}
-
-fn large_number(w: Window) -> U32Read
-    requires { 40 ≤ w.length - w.position.0 }
-    ensures { (of_u32 result ≡ refused (too_large (place_of w)) (advanced w 40)) × (result.next ≡ advanced w 40) }
-{
-    U32Read {
-        answer: U32::Refused(BitError::IntPackedOverflow {
-            position: place_of(w),
-        }),
-        next: advance(w, 40),
-    }
-}
-
 // Each byte is a field of one peeked word: five of them are 40 bits.
-pub fn packed(bytes: &[u8], w: Window) -> U32Read
-    requires { Sound bytes.now w }
-    ensures { (of_u32 result ≡ packed bytes.now w) × Sound bytes.now result.next }
+pub fn packed(bytes: &[u8], w: &mut Window) -> Result<u32, BitError>
+    requires { Sound bytes.now w.old }
+    ensures { (answer result w.new ≡ packed bytes.now w.old) × Sound bytes.now w.new }
 {
-    let position = w.position;
-    let mut left = w.length - position.0;
-    let mut rest = words::peek(bytes, packet_bit(w));
+    let start = *w;
+    let mut rest = words::peek(bytes, w.packet_bit());
     let mut value: u64 = 0;
     let mut scale: u64 = 1;
-    let mut k: u64 = 0;
-    while k < 5 {
-        if left < 8 {
-            return short_u32(advance(w, 8 * k), 8);
-        }
+    for k in 0u64..5 {
+        w.need(8)?;
+        w.advance(8);
         let byte = masks::low(8, rest);
-        let chunk = byte / 2;
-        value += chunk * scale;
+        value += byte / 2 * scale;
         if byte % 2 == 0 {
             if value > 0xffff_ffff {
-                return large_number(w);
+                return Err(BitError::IntPackedOverflow {
+                    position: place_of(start),
+                });
             }
-            return U32Read {
-                answer: U32::Value(value as u32),
-                next: advance(w, 8 * k + 8),
-            };
+            return Ok(value as u32);
         }
         rest /= 256;
         scale *= 128;
-        left -= 8;
-        k += 1;
     }
-    endless_number(w)
+    Err(BitError::MalformedIntPacked {
+        position: place_of(start),
+    })
 }
 
 fn floor_log2(max: u32) -> u32
@@ -115,31 +74,21 @@ pub fn serialized_width(word: u64, max: u32) -> u64
 }
 
 // Both reads are of one peeked word: its low bits, and the bit above them.
-pub fn serialized(bytes: &[u8], w: Window, max: u32) -> U32Read
-    requires { Sound bytes.now w × (0 < max) }
-    ensures { (of_u32 result ≡ serialized max bytes.now w) × Sound bytes.now result.next }
+pub fn serialized(bytes: &[u8], w: &mut Window, max: u32) -> Result<u32, BitError>
+    requires { Sound bytes.now w.old × (0 < max) }
+    ensures { (answer result w.new ≡ serialized max bytes.now w.old) × Sound bytes.now w.new }
 {
-    let position = w.position;
-    let left = w.length - position.0;
     let width = floor_log2(max);
     let n = width as u64;
-    if left < n {
-        return short_u32(w, n);
-    }
-    let word = words::peek(bytes, packet_bit(w));
+    w.need(n)?;
+    let word = words::peek(bytes, w.packet_bit());
     let top = power(width);
     let value = masks::low(n, word);
+    w.advance(n);
     if is_whole(value, top, max) {
-        return U32Read {
-            answer: U32::Value(value as u32),
-            next: advance(w, n),
-        };
+        return Ok(value as u32);
     }
-    if left < n + 1 {
-        return short_u32(advance(w, n), 1);
-    }
-    U32Read {
-        answer: U32::Value((value + only_if((word >> n) % 2 == 1, top)) as u32),
-        next: advance(w, n + 1),
-    }
+    w.need(1)?;
+    w.advance(1);
+    Ok((value + only_if((word >> n) % 2 == 1, top)) as u32)
 }

@@ -12,19 +12,21 @@ fn byte(x: u8) -> u64
     x as u64
 }
 
-// Arithmetic, and no shifts: it compiles to one load of eight bytes.
+// It compiles to one load of eight bytes.
 fn eight(bytes: &[u8], at: usize) -> u64
     requires { at + 8 ≤ length bytes.now }
     ensures { result ≡ eight_at bytes.now at }
 {
-    byte(bytes[at])
-        + 256 * byte(bytes[at + 1])
-        + 65536 * byte(bytes[at + 2])
-        + 16777216 * byte(bytes[at + 3])
-        + 4294967296 * byte(bytes[at + 4])
-        + 1099511627776 * byte(bytes[at + 5])
-        + 281474976710656 * byte(bytes[at + 6])
-        + 72057594037927936 * byte(bytes[at + 7])
+    u64::from_le_bytes([
+        bytes[at],
+        bytes[at + 1],
+        bytes[at + 2],
+        bytes[at + 3],
+        bytes[at + 4],
+        bytes[at + 5],
+        bytes[at + 6],
+        bytes[at + 7],
+    ])
 }
 
 // Fewer than eight are left, or none. A loop, since few loads run out of the data: it keeps the others short.
@@ -33,9 +35,7 @@ fn eight_padded(bytes: &[u8], at: usize) -> u64
     ensures { result ≡ eight_at bytes.now at }
 {
     let mut word: u64 = 0;
-    let mut i = bytes.len();
-    while i > at {
-        i -= 1;
+    for i in (at..bytes.len()).rev() {
         word = 256 * word + byte(bytes[i]);
     }
     word

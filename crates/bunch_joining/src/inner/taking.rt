@@ -1,38 +1,20 @@
 // A message is handed out: the Rust's `take_completed` and `retire_channel`.
-ghost use Rattle.std.specs.Prelude.{◌≡◌, take, drop};
-ghost use Rattle.tables.specs.declared.Slot.{Slot};
+ghost use Rattle.std.specs.Prelude.{◌≡◌, take, drop, Ok};
 ghost use Rattle.tables.specs.Tables.{get, slot_of};
 ghost use Rattle.words.specs.Words.{header_from};
-ghost use Rattle.bunch_held.specs.Memory.{held_memory};
 ghost use Rattle.bunch_held.specs.Steps.{taken, retired};
 ghost use Rattle.bunch_held.specs.Calls.{held_by};
-ghost use Rattle.bunch_settling.specs.Settling.{Using};
+ghost use Rattle.bunch_settling.specs.Settling.{Using, SameSlices, counts_of, settled_memory};
 ghost use Rattle.bunch_settling.specs.Giving.{Gives};
-ghost use Rattle.bunch_joining.specs.Taken.{of_handed, given};
+ghost use Rattle.bunch_joining.specs.Taken.{of_handed};
 
-use crate::Handed;
-use bunch_held::inner::{bytes_of, start_of};
-use bunch_held::{Accumulator, BunchError};
+use crate::PreservedPartial;
+use bunch_held::BunchError;
+use bunch_held::inner::bytes_of;
 use bunch_places::Place;
-use bunch_places::inner::copy_bytes;
-use bunch_settling::inner::messages::{Settled, drop_message, words_of};
-use tables::{Slot, inner};
+use bunch_settling::inner::messages::{Settled, words_of};
 use types::RawBunchHeader;
 use words::header_of;
-
-#[derive(Clone, Copy)]
-pub struct Given {
-    pub answer: Handed,
-    pub left: Settled,
-}
-
-// Nothing changes.
-fn unchanged(answer: Handed, accumulator: Accumulator, used: usize) -> Given
-    ensures { result ≡ given answer accumulator used }
-{
-    let left = Settled { accumulator, used };
-    Given { answer, left }
-}
 
 fn header_in(p: Place) -> RawBunchHeader
     ensures { result ≡ header_from (drop 4 p) }
@@ -42,90 +24,71 @@ fn header_in(p: Place) -> RawBunchHeader
 
 // The message at place i, finished or not.
 fn hand_out(
-    a: Accumulator,
-    used: usize,
+    s: &mut Settled<'_>,
     ch_index: u32,
     i: usize,
-    channels: &mut [u32],
-    places: &mut [Place],
-    arena: &mut [u8],
     output: &mut [u8],
-) -> Given
-    requires { Using a (held_memory channels.old places.old arena.old) used
-        × (slot_of ch_index (take a.active channels.old) ≡ Slot.At i) }
-    ensures { let before = held_memory channels.old places.old arena.old in
-        let after = held_memory channels.new places.new arena.new in
-        let step = retired (get ch_index (held_by a before)) output.old in
-        Gives a before ch_index step (of_handed result.answer) result.left after output.new }
+) -> Result<Option<PreservedPartial>, BunchError>
+    requires { Using s.old.accumulator (settled_memory s.old) s.old.used
+        × (slot_of ch_index (take s.old.accumulator.active s.old.channels.now) ≡ Ok i) }
+    ensures same { SameSlices s.old s.new }
+    ensures gives { let before = settled_memory s.old in
+        let step = retired (get ch_index (held_by s.old.accumulator before)) output.old in
+        Gives s.old.accumulator before ch_index step (of_handed result) (counts_of s.new) (settled_memory s.new) output.new }
 {
-    let p = places[i];
+    let p = s.places[i];
     let bits = p[0];
     let n = bytes_of(bits);
     if output.len() < n {
-        return unchanged(
-            Handed::Refused(BunchError::OutputShort { bytes: n as u64 }),
-            a,
-            used,
-        );
+        return Err(BunchError::OutputShort { bytes: n as u64 });
     }
-    let start = start_of(places, i);
-    copy_bytes(arena, start, n, output, 0);
-    let left = drop_message(a, used, ch_index, i, start, channels, places, arena);
+    let start = s.start_of(i);
+    s.copy_out(start, n, output);
+    s.drop_message(ch_index, i, start);
     let header = header_in(p);
-    Given {
-        answer: Handed::Message {
-            header,
-            bit_count: bits,
-        },
-        left,
-    }
+    Ok(Some(PreservedPartial {
+        header,
+        bit_count: bits,
+    }))
 }
 
 pub fn retire_channel(
-    a: Accumulator,
-    used: usize,
+    s: &mut Settled<'_>,
     ch_index: u32,
-    channels: &mut [u32],
-    places: &mut [Place],
-    arena: &mut [u8],
     output: &mut [u8],
-) -> Given
-    requires { Using a (held_memory channels.old places.old arena.old) used }
-    ensures { let before = held_memory channels.old places.old arena.old in
-        let after = held_memory channels.new places.new arena.new in
-        let step = retired (get ch_index (held_by a before)) output.old in
-        Gives a before ch_index step (of_handed result.answer) result.left after output.new }
+) -> Result<Option<PreservedPartial>, BunchError>
+    requires { Using s.old.accumulator (settled_memory s.old) s.old.used }
+    ensures same { SameSlices s.old s.new }
+    ensures gives { let before = settled_memory s.old in
+        let step = retired (get ch_index (held_by s.old.accumulator before)) output.old in
+        Gives s.old.accumulator before ch_index step (of_handed result) (counts_of s.new) (settled_memory s.new) output.new }
 {
-    match inner::find(channels, a.active, ch_index) {
-        Slot::At(i) => hand_out(a, used, ch_index, i, channels, places, arena, output),
-        Slot::Free(_) => unchanged(Handed::Nothing, a, used),
+    match s.find(ch_index) {
+        Ok(i) => hand_out(s, ch_index, i, output),
+        Err(_) => Ok(None),
     }
 }
 
 // Only a finished message is taken.
 pub fn take_completed(
-    a: Accumulator,
-    used: usize,
+    s: &mut Settled<'_>,
     ch_index: u32,
-    channels: &mut [u32],
-    places: &mut [Place],
-    arena: &mut [u8],
     output: &mut [u8],
-) -> Given
-    requires { Using a (held_memory channels.old places.old arena.old) used }
-    ensures { let before = held_memory channels.old places.old arena.old in
-        let after = held_memory channels.new places.new arena.new in
-        let step = taken (get ch_index (held_by a before)) output.old in
-        Gives a before ch_index step (of_handed result.answer) result.left after output.new }
+) -> Result<Option<PreservedPartial>, BunchError>
+    requires { Using s.old.accumulator (settled_memory s.old) s.old.used }
+    ensures same { SameSlices s.old s.new }
+    ensures gives { let before = settled_memory s.old in
+        let step = taken (get ch_index (held_by s.old.accumulator before)) output.old in
+        Gives s.old.accumulator before ch_index step (of_handed result) (counts_of s.new) (settled_memory s.new) output.new }
 {
-    match inner::find(channels, a.active, ch_index) {
-        Slot::At(i) => {
-            let p = places[i];
+    match s.find(ch_index) {
+        Ok(i) => {
+            let p = s.places[i];
             if p[1] == 1 {
-                return hand_out(a, used, ch_index, i, channels, places, arena, output);
+                return hand_out(s, ch_index, i, output);
             }
-            unchanged(Handed::Nothing, a, used)
+            Ok(None)
         }
-        Slot::Free(_) => unchanged(Handed::Nothing, a, used),
+        Err(_) => Ok(None),
     }
 }

@@ -1,7 +1,6 @@
 // The answer to a fragment, but for what was displaced: the Rust's `PartialBunchResult`.
-ghost use Rattle.std.specs.Prelude.{◌≡◌, cond, List, ℕ, ◌≤◌};
+ghost use Rattle.std.specs.Prelude.{◌≡◌, List, ℕ, ◌≤◌};
 ghost use Rattle.types.specs.Types.{longest_payload, most_buffered_bits};
-ghost use Rattle.types.specs.declared.PartialSequenceKind.{PartialSequenceKind};
 ghost use Rattle.bunch_judging.specs.Results.{is_overlapping, cause_kind, limit_of, refused, turned_away, broken, failed, accepted};
 ghost use Rattle.bunch_judging.specs.Results.{result_of};
 ghost use Rattle.bunch_judging.specs.Standings.{held_of, standing_bits, displaced_bits};
@@ -12,30 +11,24 @@ use crate::headers::{after_test, erring, flagged};
 use crate::{Fate, PartialBunchResult, PartialDiscardCause, PartialResourceLimit, Standing};
 use types::{PartialSequenceKind, RawBunchHeader};
 
-fn bits_of(held: Standing) -> u64
+fn bits_of(held: Option<Standing>) -> u64
     ensures { result ≡ standing_bits held }
 {
     match held {
-        Standing::Nothing => 0,
-        Standing::Message {
-            sequence: _,
-            reliable: _,
-            finished: _,
-            bits,
-        } => bits,
+        None => 0,
+        Some(m) => m.bits,
     }
 }
 
+#[tactic(auto, unfolding(crate::specs::Standings::displaced_bits))]
 fn displaced_bits(fate: Fate, initial: bool, held: u64, bits: u64) -> u64
     requires { (held ≤ most_buffered_bits) × (bits ≤ longest_payload) }
     ensures { result ≡ displaced_bits fate initial held bits }
 {
     match fate {
         Fate::TurnedAway => 0,
-        Fate::Breaks(_) => held,
-        Fate::Fails(_) => held,
-        Fate::Joins => if initial { held } else { 0 },
-        Fate::Finishes => if initial { held } else { 0 },
+        Fate::Breaks(_) | Fate::Fails(_) => held,
+        Fate::Joins | Fate::Finishes => if initial { held } else { 0 },
         Fate::Falls => if initial | (bits != 0) {
             held + bits
         } else {
@@ -44,40 +37,34 @@ fn displaced_bits(fate: Fate, initial: bool, held: u64, bits: u64) -> u64
     }
 }
 
-fn is_overlapping(kind: PartialSequenceKind) -> bool
+fn is_overlapping(kind: Option<PartialSequenceKind>) -> bool
     ensures { result ≡ is_overlapping kind }
 {
-    match kind {
-        PartialSequenceKind::None => false,
-        PartialSequenceKind::MissingInitial => false,
-        PartialSequenceKind::OverlappingInitial => true,
-        PartialSequenceKind::MismatchedContinuation => false,
-        PartialSequenceKind::NonByteAlignedFragment => false,
-    }
+    kind == Some(PartialSequenceKind::OverlappingInitial)
 }
 
-fn kind_of(cause: PartialDiscardCause) -> PartialSequenceKind
+fn kind_of(cause: PartialDiscardCause) -> Option<PartialSequenceKind>
     ensures { result ≡ cause_kind cause }
 {
     match cause {
-        PartialDiscardCause::Sequence(kind) => kind,
-        PartialDiscardCause::Resource(_) => PartialSequenceKind::None,
+        PartialDiscardCause::Sequence(kind) => Some(kind),
+        PartialDiscardCause::Resource(_) => None,
     }
 }
 
-fn limit_of(cause: PartialDiscardCause) -> PartialResourceLimit
+fn limit_of(cause: PartialDiscardCause) -> Option<PartialResourceLimit>
     ensures { result ≡ limit_of cause }
 {
     match cause {
-        PartialDiscardCause::Sequence(_) => PartialResourceLimit::None,
-        PartialDiscardCause::Resource(limit) => limit,
+        PartialDiscardCause::Sequence(_) => None,
+        PartialDiscardCause::Resource(limit) => Some(limit),
     }
 }
 
 fn refused(
     header: RawBunchHeader,
-    limit: PartialResourceLimit,
-    kind: PartialSequenceKind,
+    limit: Option<PartialResourceLimit>,
+    kind: Option<PartialSequenceKind>,
     overlapping: bool,
     discarded: u64,
     errors: u32,
@@ -101,18 +88,18 @@ fn turned_away(header: RawBunchHeader, bits: u64) -> PartialBunchResult
     ensures { result ≡ turned_away header bits }
 {
     let kind = header.partial_error_kind;
-    let limit = PartialResourceLimit::ActiveStates;
+    let limit = Some(PartialResourceLimit::ActiveStates);
     let flagged = erring(kind, header);
-    refused(flagged, limit, PartialSequenceKind::None, false, bits, 1)
+    refused(flagged, limit, None, false, bits, 1)
 }
 
 fn broken(kind: PartialSequenceKind, header: RawBunchHeader, discarded: u64) -> PartialBunchResult
     ensures { result ≡ broken kind header discarded }
 {
-    let limit = PartialResourceLimit::None;
-    let flagged = erring(kind, header);
-    let overlapping = is_overlapping(kind);
-    refused(flagged, limit, kind, overlapping, discarded, 1)
+    let met = Some(kind);
+    let flagged = erring(met, header);
+    let overlapping = is_overlapping(met);
+    refused(flagged, None, met, overlapping, discarded, 1)
 }
 
 fn failed(
@@ -143,12 +130,13 @@ fn accepted(
     let kind = h.partial_error_kind;
     let header = flagged(h.has_partial_error, kind, h.is_partial_completed | done, h);
     let overlapping = is_overlapping(kind);
+    let told = if zero { None } else { kind };
     PartialBunchResult {
         header,
         should_process: done,
-        resource_limit: PartialResourceLimit::None,
+        resource_limit: None,
         discarded_bits: discarded,
-        error_kind: unless(zero, kind),
+        error_kind: told,
         overlapping_initial: overlapping,
         errors,
         fragments: 1,
@@ -156,17 +144,13 @@ fn accepted(
     }
 }
 
-fn unless(zero: bool, kind: PartialSequenceKind) -> PartialSequenceKind
-    ensures { result ≡ cond zero PartialSequenceKind.None kind }
-{
-    if zero {
-        return PartialSequenceKind::None;
-    }
-    kind
-}
-
 // The limits keep every sum small.
-pub fn result(fate: Fate, held: Standing, header: RawBunchHeader, bits: u64) -> PartialBunchResult
+pub fn result(
+    fate: Fate,
+    held: Option<Standing>,
+    header: RawBunchHeader,
+    bits: u64,
+) -> PartialBunchResult
     requires { (standing_bits held ≤ most_buffered_bits) × (bits ≤ longest_payload) }
     ensures { (words bytes payload : List ℕ) → result ≡ result_of fate (held_of held words bytes) (fragment_of header bits payload) }
 {
@@ -177,8 +161,7 @@ pub fn result(fate: Fate, held: Standing, header: RawBunchHeader, bits: u64) -> 
         Fate::TurnedAway => turned_away(header, bits),
         Fate::Breaks(kind) => broken(kind, header, gone + bits),
         Fate::Fails(cause) => failed(cause, h, gone + bits, errors + 1),
-        Fate::Joins => accepted(h, bits == 0, false, gone, errors),
         Fate::Finishes => accepted(h, bits == 0, true, gone, errors),
-        Fate::Falls => accepted(h, bits == 0, false, gone, errors),
+        Fate::Joins | Fate::Falls => accepted(h, bits == 0, false, gone, errors),
     }
 }

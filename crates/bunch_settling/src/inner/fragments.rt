@@ -3,17 +3,16 @@ ghost use Rattle.std.specs.Prelude.{◌≡◌, cond, List, [], ℕ, ◌<◌, ◌
 ghost use Rattle.tables.specs.Tables.{found, none};
 ghost use Rattle.bunch_places.specs.Bytes.{bytes_of};
 ghost use Rattle.bunch_judging.specs.Fates.{sequence_word, fate};
-ghost use Rattle.bunch_judging.specs.Standings.{held_of, standing_bits};
+ghost use Rattle.bunch_judging.specs.Standings.{held_of};
 ghost use Rattle.bunch_judging.specs.Effects.{effect_of};
-ghost use Rattle.bunch_held.specs.Memory.{held_memory, held_at};
+ghost use Rattle.bunch_held.specs.Memory.{held_at};
 ghost use Rattle.bunch_held.specs.Steps.{holding};
 ghost use Rattle.bunch_held.specs.Calls.{held_by};
-ghost use Rattle.bunch_settling.specs.Settling.{Lays};
+ghost use Rattle.bunch_settling.specs.Settling.{Lays, SameSlices, counts_of, settled_memory};
 ghost use Rattle.bunch_settling.specs.Fragments.{started_words, joined_words, words_after, held_in_place, left_by, Joinable, Holds, Lacks};
 
-use crate::inner::messages::{Settled, change_bytes, drop_message, start_message};
+use crate::inner::messages::Settled;
 use bitio_bits::inner::signed;
-use bunch_held::Accumulator;
 use bunch_held::inner::bytes_of;
 use bunch_judging::effects::effect;
 use bunch_judging::fates::fate;
@@ -24,9 +23,9 @@ use words::of_header;
 
 pub fn standing_of(p: Place) -> Standing
     requires { get_or p 3 0 < 2 ^ 32 }
-    ensures { ((bytes : List ℕ) → held_of result (drop 4 p) bytes ≡ found (held_at p bytes)) × (standing_bits result ≡ get_or p 0 0) }
+    ensures { ((bytes : List ℕ) → held_of (Some result) (drop 4 p) bytes ≡ found (held_at p bytes)) × (result.bits ≡ get_or p 0 0) }
 {
-    Standing::Message {
+    Standing {
         sequence: p[3] as u32,
         reliable: p[2] == 1,
         finished: p[1] == 1,
@@ -44,6 +43,7 @@ pub fn sequence_of(h: RawBunchHeader) -> u32
 fn started_place(h: RawBunchHeader, sequence: u32, bits: u64, finished: bool) -> Place
     ensures { result ≡ started_words h sequence bits finished }
 {
+    // Word by word: with the header's words copied over zeros, here and in `words_of`, a chain alone in flight took a fifth longer.
     let w = of_header(h);
     [
         bits,
@@ -105,13 +105,7 @@ fn put_place(
     join_place(places, i, finished, sequence, bits);
 }
 
-fn bytes_if(shown: bool, n: usize) -> usize
-    ensures { result ≡ cond shown n 0 }
-{
-    if shown { n } else { 0 }
-}
-
-fn bits_if(shown: bool, n: u64) -> u64
+pub fn bits_if(shown: bool, n: u64) -> u64
     ensures { result ≡ cond shown n 0 }
 {
     if shown { n } else { 0 }
@@ -129,7 +123,7 @@ pub struct Weighed {
 pub fn weigh(
     full: bool,
     over: bool,
-    standing: Standing,
+    standing: Option<Standing>,
     held: u64,
     header: RawBunchHeader,
     bits: u64,
@@ -145,83 +139,64 @@ pub fn weigh(
     Weighed {
         fate: met,
         effect: e,
-        held: bytes_if(e.shows_held, bytes_of(held)),
+        held: bytes_of(bits_if(e.shows_held, held)),
         payload: bits_if(e.shows_payload, bits),
     }
 }
 
-// The channel's message stands at place i; h is the fragment's header after the sequence test, and `sequence` its word.
-pub fn settle_held(
-    a: Accumulator,
-    used: usize,
-    ch_index: u32,
-    i: usize,
-    start: usize,
-    e: Effect,
-    h: RawBunchHeader,
-    sequence: u32,
-    payload: &[u8],
-    bits: u64,
-    channels: &mut [u32],
-    places: &mut [Place],
-    arena: &mut [u8],
-) -> Settled
-    requires { Holds a (held_memory channels.old places.old arena.old) used ch_index i start e h sequence bits payload.now }
-    ensures { let before = held_memory channels.old places.old arena.old in
-        let after = held_memory channels.new places.new arena.new in
-        let left = left_by e (found (held_in_place i start before)) h bits payload.now in
-        Lays a before (holding ch_index left (held_by a before)) result after }
-{
-    if e.stays {
-        let held = places[i][0];
-        let joins = bits_if(!e.anew, held);
-        let keep = bytes_of(joins);
-        put_place(places, i, e.anew, e.finished, h, sequence, bits);
-        return change_bytes(
-            a,
-            used,
-            start,
-            held,
-            keep,
-            payload,
-            bits,
-            joins + bits,
-            arena,
-        );
+impl Settled<'_> {
+    // The channel's message stands at place i; h is the fragment's header after the sequence test, and `sequence` its word.
+    pub fn settle_held(
+        &mut self,
+        ch_index: u32,
+        i: usize,
+        start: usize,
+        e: Effect,
+        h: RawBunchHeader,
+        sequence: u32,
+        payload: &[u8],
+        bits: u64,
+    )
+        requires { Holds self.old.accumulator (settled_memory self.old) self.old.used ch_index i start e h sequence bits payload.now }
+        ensures same { SameSlices self.old self.new }
+        ensures lays { let a = self.old.accumulator in
+            let before = settled_memory self.old in
+            let left = left_by e (found (held_in_place i start before)) h bits payload.now in
+            Lays a before (holding ch_index left (held_by a before)) (counts_of self.new) (settled_memory self.new) }
+    {
+        if e.stays {
+            let held = self.places[i][0];
+            let joins = bits_if(!e.anew, held);
+            let keep = bytes_of(joins);
+            put_place(self.places, i, e.anew, e.finished, h, sequence, bits);
+            self.change_bytes(start, held, keep, payload, bits, joins + bits);
+            return;
+        }
+        self.drop_message(ch_index, i, start);
     }
-    drop_message(a, used, ch_index, i, start, channels, places, arena)
-}
 
-// The channel holds nothing; its message would stand at place i.
-pub fn settle_free(
-    a: Accumulator,
-    used: usize,
-    ch_index: u32,
-    i: usize,
-    start: usize,
-    e: Effect,
-    h: RawBunchHeader,
-    sequence: u32,
-    payload: &[u8],
-    bits: u64,
-    channels: &mut [u32],
-    places: &mut [Place],
-    arena: &mut [u8],
-) -> Settled
-    requires { Lacks a (held_memory channels.old places.old arena.old) used ch_index i start e h sequence bits payload.now }
-    ensures { let before = held_memory channels.old places.old arena.old in
-        let after = held_memory channels.new places.new arena.new in
-        let left = left_by e none h bits payload.now in
-        Lays a before (holding ch_index left (held_by a before)) result after }
-{
-    if e.stays {
-        let next = started_place(h, sequence, bits, e.finished);
-        return start_message(
-            a, used, ch_index, i, start, next, payload, channels, places, arena,
-        );
-    }
-    Settled {
-        accumulator: a,
-        used,
+    // The channel holds nothing; its message would stand at place i.
+    pub fn settle_free(
+        &mut self,
+        ch_index: u32,
+        i: usize,
+        start: usize,
+        e: Effect,
+        h: RawBunchHeader,
+        sequence: u32,
+        payload: &[u8],
+        bits: u64,
+    )
+        requires { Lacks self.old.accumulator (settled_memory self.old) self.old.used ch_index i start e h sequence bits payload.now }
+        ensures same { SameSlices self.old self.new }
+        ensures lays { let a = self.old.accumulator in
+            let before = settled_memory self.old in
+            let left = left_by e none h bits payload.now in
+            Lays a before (holding ch_index left (held_by a before)) (counts_of self.new) (settled_memory self.new) }
+    {
+        if e.stays {
+            let next = started_place(h, sequence, bits, e.finished);
+            self.start_message(ch_index, i, start, next, payload);
+        }
     }
 }

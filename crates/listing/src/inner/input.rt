@@ -1,11 +1,11 @@
 // The part of the log that stands in the buffer.
-ghost use Rattle.std.specs.Prelude.{◌≡◌, ◌+◌, ◌-◌, ◌≤◌, length, take, drop};
+ghost use Rattle.std.specs.Prelude.{◌≡◌, ◌+◌, ◌-◌, ◌≤◌, length, take, drop, false, IfErr};
 ghost use Rattle.std.specs.Io.KnownBytes.{Consumes};
-ghost use Rattle.listing.specs.Calls.{bytes_moved};
-ghost use Rattle.listing.specs.Input.{InBuffer, Slid, RefilledFrom};
+ghost use Rattle.listing.specs.Calls.{bytes_moved, is_interrupted};
+ghost use Rattle.listing.specs.Input.{InBuffer, RefilledFrom};
 
 use crate::inner::moved;
-use crate::inner::moved::Moved;
+use crate::inner::moved::Failure;
 use std::io::Read;
 
 // The bytes of the log before the buffer, and how many stand in it.
@@ -19,24 +19,10 @@ pub struct Part {
 #[derive(Clone, Copy)]
 pub struct Refilled {
     pub part: Part,
-    pub moved: Moved,
+    pub moved: Result<usize, Failure>,
 }
 
-// The bytes from `at` on, moved to the front.
-fn slide(buffer: &mut [u8], at: usize, held: usize) -> usize
-    requires { (at ≤ held) × (held ≤ length buffer.old) }
-    ensures { (result ≡ held - at) × Slid at result buffer.old buffer.new }
-{
-    let left = held - at;
-    let mut i: usize = 0;
-    while i < left {
-        buffer[i] = buffer[at + i];
-        i += 1;
-    }
-    left
-}
-
-fn read_once<R: Read>(source: &mut R, buffer: &mut [u8], held: usize) -> Moved
+fn read_once<R: Read>(source: &mut R, buffer: &mut [u8], held: usize) -> Result<usize, Failure>
     requires { held ≤ length buffer.old }
     ensures within { held + bytes_moved result ≤ length buffer.new }
     ensures kept { take held buffer.new ≡ take held buffer.old }
@@ -45,20 +31,26 @@ fn read_once<R: Read>(source: &mut R, buffer: &mut [u8], held: usize) -> Moved
     moved::moved_by(source.read(&mut buffer[held..]))
 }
 
-// A read that a signal interrupted is made again. The loop's count is one that no run uses up.
-fn read_more<R: Read>(source: &mut R, buffer: &mut [u8], held: usize) -> Moved
+// A read that a signal interrupted is made again. A proved loop has to end: it counts its turns, which no run uses up.
+fn read_more<R: Read>(source: &mut R, buffer: &mut [u8], held: usize) -> Result<usize, Failure>
     requires { held ≤ length buffer.old }
     ensures within { held + bytes_moved result ≤ length buffer.new }
     ensures kept { take held buffer.new ≡ take held buffer.old }
     ensures brought { Consumes (R.remaining source.old) (R.remaining source.new) (take (bytes_moved result) (drop held buffer.new)) }
+    ensures again { IfErr result (λ f. is_interrupted f ≡ false) }
 {
-    let mut moved = read_once(source, buffer, held);
-    let mut turns = u64::MAX;
-    while turns > 0 && moved::is_interrupted(moved) {
-        turns -= 1;
-        moved = read_once(source, buffer, held);
+    'again: for _ in 0..u64::MAX {
+        let moved = read_once(source, buffer, held);
+        match moved {
+            Ok(_) => return moved,
+            Err(failure) => {
+                if !failure.is_interrupted() {
+                    return moved;
+                }
+            }
+        }
     }
-    moved
+    Err(Failure { number: None })
 }
 
 pub fn refill<R: Read>(source: &mut R, buffer: &mut [u8], part: Part, at: usize) -> Refilled
@@ -68,12 +60,13 @@ pub fn refill<R: Read>(source: &mut R, buffer: &mut [u8], part: Part, at: usize)
     ensures brought { Consumes (R.remaining source.old) (R.remaining source.new)
         (take (bytes_moved result.moved) (drop (part.held - at) buffer.new)) }
 {
-    let left = slide(buffer, at, part.held);
+    let left = part.held - at;
+    buffer.copy_within(at..part.held, 0);
     let moved = read_more(source, buffer, left);
     Refilled {
         part: Part {
             before: part.before.wrapping_add(at as u64),
-            held: left + moved::bytes_of(moved),
+            held: left + moved.unwrap_or(0),
         },
         moved,
     }

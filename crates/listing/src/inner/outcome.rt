@@ -1,97 +1,88 @@
 // How a listing ends, decided by value from what was read and what was written.
 ghost use Rattle.std.specs.Prelude.{◌≡◌};
-ghost use Rattle.listing.specs.Outcomes.{read_failed, first_read, opened as openedBy, after_bytes, after_read, turns_to_list, after_flush};
+ghost use Rattle.listing.specs.Outcomes.{read_failed, write_failed, first_read, opened as openedBy, after_bytes, after_read, is_over};
 
-use crate::inner::moved;
-use crate::inner::moved::Moved;
-use packet_log::Version;
+use crate::inner::moved::Failure;
+use crate::inner::output::Unwritten;
+use packet_log::VersionError;
 
-// It goes on, or has ended. A number is a byte of the log (`Ended`: its length), but for the version, an error's number, and of a
-// write that failed how many bytes of the listing are out.
+// A number is a byte of the log (`Ended`: its length), but for the version, an error's number where it has one, and of a write that
+// failed how many bytes of the listing are out.
 #[derive(Clone, Copy)]
 pub enum Outcome {
-    GoesOn,
     Ended(u64),
     CutAt(u64),
     OtherVersion(u8),
-    ReadFailed { at: u64, error: u64 },
-    WriteFailed { at: u64, error: u64 },
+    ReadFailed { at: u64, error: Option<u64> },
+    WriteFailed { at: u64, error: Option<u64> },
 }
 
 // `left` bytes from `start` on had been read.
-fn read_failed(left: usize, start: u64, error: u64) -> Outcome
-    ensures { result ≡ read_failed left start error }
+fn read_failed(left: usize, start: u64, failure: Failure) -> Outcome
+    ensures { result ≡ read_failed left start failure }
 {
     Outcome::ReadFailed {
         at: start.wrapping_add(left as u64),
-        error,
-    }
-}
-
-// A log whose first read fails is not an empty one.
-fn first_read(moved: Moved) -> Outcome
-    ensures { result ≡ first_read moved }
-{
-    match moved {
-        Moved::Bytes(_) => Outcome::CutAt(0),
-        Moved::Interrupted => read_failed(0, 0, moved::INTERRUPTED),
-        Moved::Failed(error) => read_failed(0, 0, error),
-    }
-}
-
-pub fn opened(version: Version, moved: Moved) -> Outcome
-    ensures { result ≡ openedBy version moved }
-{
-    match version {
-        Version::Ours => Outcome::GoesOn,
-        Version::Other(number) => Outcome::OtherVersion(number),
-        Version::Missing => first_read(moved),
-    }
-}
-
-// Where a read brought nothing the log has ended: in the record that starts at `start`, if bytes of one are left.
-fn after_bytes(count: usize, left: usize, start: u64) -> Outcome
-    ensures { result ≡ after_bytes count left start }
-{
-    if count > 0 {
-        return Outcome::GoesOn;
-    }
-    if left > 0 {
-        return Outcome::CutAt(start);
-    }
-    Outcome::Ended(start)
-}
-
-pub fn after_read(moved: Moved, left: usize, start: u64) -> Outcome
-    ensures { result ≡ after_read moved left start }
-{
-    match moved {
-        Moved::Bytes(count) => after_bytes(count, left, start),
-        Moved::Interrupted => read_failed(left, start, moved::INTERRUPTED),
-        Moved::Failed(error) => read_failed(left, start, error),
+        error: failure.number,
     }
 }
 
 // Bytes that did not get out are a hole in the listing, whatever else there is to say.
-pub fn after_flush(outcome: Outcome, used: usize, out: usize, written: u64, error: u64) -> Outcome
-    ensures { result ≡ after_flush outcome used out written error }
+pub fn write_failed(written: u64, hole: Unwritten) -> Outcome
+    ensures { result ≡ write_failed written hole }
 {
-    if out == used {
-        return outcome;
+    Outcome::WriteFailed {
+        at: written.wrapping_add(hole.bytes as u64),
+        error: hole.error,
     }
-    Outcome::WriteFailed { at: written, error }
 }
 
-// A listing that has ended has no turn left.
-pub fn turns_left(turns: u64, outcome: Outcome) -> u64
-    ensures { result ≡ turns_to_list turns outcome }
+// A log whose first read fails is not an empty one.
+fn first_read(moved: Result<usize, Failure>) -> Outcome
+    ensures { result ≡ first_read moved }
 {
-    match outcome {
-        Outcome::GoesOn => turns,
-        Outcome::Ended(_) => 0,
-        Outcome::CutAt(_) => 0,
-        Outcome::OtherVersion(_) => 0,
-        Outcome::ReadFailed { at: _, error: _ } => 0,
-        Outcome::WriteFailed { at: _, error: _ } => 0,
+    match moved {
+        Ok(_) => Outcome::CutAt(0),
+        Err(failure) => read_failed(0, 0, failure),
     }
+}
+
+// None where it goes on.
+pub fn opened(version: Result<(), VersionError>, moved: Result<usize, Failure>) -> Option<Outcome>
+    ensures { result ≡ openedBy version moved }
+{
+    match version {
+        Ok(()) => None,
+        Err(VersionError::Other(number)) => Some(Outcome::OtherVersion(number)),
+        Err(VersionError::Missing) => Some(first_read(moved)),
+    }
+}
+
+// Where a read brought nothing the log has ended: in the record that starts at `start`, if bytes of one are left.
+fn after_bytes(count: usize, left: usize, start: u64) -> Option<Outcome>
+    ensures { result ≡ after_bytes count left start }
+{
+    if count > 0 {
+        None
+    } else if left > 0 {
+        Some(Outcome::CutAt(start))
+    } else {
+        Some(Outcome::Ended(start))
+    }
+}
+
+pub fn after_read(moved: Result<usize, Failure>, left: usize, start: u64) -> Option<Outcome>
+    ensures { result ≡ after_read moved left start }
+{
+    match moved {
+        Ok(count) => after_bytes(count, left, start),
+        Err(failure) => Some(read_failed(left, start, failure)),
+    }
+}
+
+// A listing that has ended takes no further turn.
+pub fn is_over(outcome: Option<Outcome>) -> bool
+    ensures { result ≡ is_over outcome }
+{
+    outcome.is_some()
 }

@@ -1,10 +1,10 @@
 // The listing: the version byte, then record after record.
 ghost use Rattle.std.specs.Prelude.{◌≡◌, ◌≤◌};
 ghost use Rattle.types.specs.Types.{most_channels};
-ghost use Rattle.packet_reading.specs.Memory.{reader_memory};
+ghost use Rattle.packet_reading.specs.Memory.{columns_memory, SameColumns};
 ghost use Rattle.packet_reading.specs.State.{TablesSound};
 ghost use Rattle.packet_log.specs.Log.{entry_at};
-ghost use Rattle.listing.specs.Input.{InBuffer, Short};
+ghost use Rattle.listing.specs.Input.{InBuffer, whole_at, Short};
 ghost use Rattle.listing.specs.Outcomes.{Concluded, last_line};
 ghost use Rattle.log_lines.specs.Texts.{written as textWritten};
 ghost use Rattle.log_telling.specs.Turns.{PacketRoom};
@@ -12,8 +12,8 @@ ghost use Rattle.log_telling.specs.Turns.{PacketRoom};
 use crate::inner::input::Part;
 use crate::inner::outcome::Outcome;
 use crate::inner::{input, outcome, output, said};
-use packet_log::{Entry, Version};
-use packet_reading::RawPacketReader;
+use packet_log::Record;
+use packet_reading::{RawPacketReader, ReaderColumns};
 use std::io::{Read, Write};
 use types::MAX_ACTIVE_CHANNELS;
 
@@ -23,21 +23,21 @@ pub struct Listed {
     pub reader: RawPacketReader,
     pub used: usize,
     pub written: u64,
-    pub outcome: Outcome,
+    pub outcome: Option<Outcome>,
 }
 
 // The same once nothing waits.
 #[derive(Clone, Copy)]
 pub struct Ended {
     pub reader: RawPacketReader,
-    pub outcome: Outcome,
+    pub outcome: Option<Outcome>,
 }
 
-// Two bytes hold its length, so a packet is never above 65,535 bytes.
-fn record_at(bytes: &[u8], at: u64) -> Entry
-    ensures { (result ≡ entry_at bytes.now at) × Short result }
+// A whole record. Two bytes hold its length, so a packet is never above 65,535 bytes.
+fn record_at(bytes: &[u8], at: u64) -> Option<Record>
+    ensures { (result ≡ whole_at (entry_at bytes.now at)) × Short result }
 {
-    packet_log::reading::record_at(bytes, at)
+    packet_log::reading::record_at(bytes, at).unwrap_or(None)
 }
 
 // A proved loop has to end, and nothing says that an input does: it counts its turns down, from a number that no run uses up.
@@ -47,68 +47,56 @@ fn records<R: Read, W: Write>(
     buffer: &mut [u8],
     out: &mut [u8],
     first: Part,
-    sequence_channels: &mut [u32],
-    sequence_numbers: &mut [u32],
-    partial_channels: &mut [u32],
-    partial_sequences: &mut [u32],
-    partial_reliables: &mut [u32],
+    columns: &mut ReaderColumns<'_>,
 ) -> Listed
-    requires { let memory = reader_memory sequence_channels.old sequence_numbers.old
-        partial_channels.old partial_sequences.old partial_reliables.old in
-        InBuffer buffer.old first
+    requires { InBuffer buffer.old first
         × (1 ≤ first.held)
         × PacketRoom out.old 0
-        × TablesSound most_channels 0 0 memory }
-    ensures { let after = reader_memory sequence_channels.new sequence_numbers.new
-        partial_channels.new partial_sequences.new partial_reliables.new in
-        TablesSound most_channels result.reader.live_sequences result.reader.live_partials after
+        × TablesSound most_channels 0 0 (columns_memory columns.old) }
+    ensures same { SameColumns columns.old columns.new }
+    ensures state { TablesSound most_channels result.reader.live_sequences result.reader.live_partials (columns_memory columns.new)
         × PacketRoom out.new result.used }
 {
     let mut part = first;
     let mut at: usize = 1;
     let mut used: usize = 0;
     let mut written: u64 = 0;
-    let mut outcome = Outcome::GoesOn;
+    let mut outcome = None;
     let mut live_sequences: usize = 0;
     let mut live_partials: usize = 0;
-    let mut turns = u64::MAX;
-    while turns > 0 {
-        turns -= 1;
+    'records: for _ in 0..u64::MAX {
         let held = part.held;
         let found = record_at(&buffer[..held], at as u64);
-        if let Entry::Packet {
-            id,
-            start,
-            length: _,
-            next,
-        } = found
-        {
-            let from = start as usize;
-            let to = next as usize;
+        if let Some(record) = found {
+            let from = record.start as usize;
+            let to = record.next as usize;
+            let mut reader = RawPacketReader {
+                max_channels: MAX_ACTIVE_CHANNELS,
+                live_sequences,
+                live_partials,
+            };
             let told = log_telling::inner::tell(
                 &buffer[from..to],
-                id,
-                RawPacketReader {
-                    max_channels: MAX_ACTIVE_CHANNELS,
-                    live_sequences,
-                    live_partials,
-                },
+                record.id,
+                &mut reader,
                 out,
                 used,
-                sequence_channels,
-                sequence_numbers,
-                partial_channels,
-                partial_sequences,
-                partial_reliables,
+                columns,
             );
-            let room = output::with_room(sink, out, told.end, written);
-            used = room.used;
-            written = room.written;
-            outcome = room.outcome;
-            live_sequences = told.live_sequences;
-            live_partials = told.live_partials;
+            live_sequences = reader.live_sequences;
+            live_partials = reader.live_partials;
             at = to;
-            turns = outcome::turns_left(turns, outcome);
+            match output::with_room(sink, out, told, written) {
+                Ok(room) => {
+                    used = room.used;
+                    written = room.written;
+                }
+                Err(failed) => {
+                    used = 0;
+                    outcome = Some(failed);
+                    break;
+                }
+            }
         } else {
             let left = held - at;
             let refilled = input::refill(source, buffer, part, at);
@@ -116,7 +104,9 @@ fn records<R: Read, W: Write>(
             at = 0;
             let moved = refilled.moved;
             outcome = outcome::after_read(moved, left, part.before);
-            turns = outcome::turns_left(turns, outcome);
+            if outcome::is_over(outcome) {
+                break;
+            }
         }
     }
     Listed {
@@ -137,18 +127,21 @@ fn conclude<W: Write>(
     out: &mut [u8],
     used: usize,
     written: u64,
-    outcome: Outcome,
-) -> Outcome
+    outcome: Option<Outcome>,
+) -> Option<Outcome>
     requires { PacketRoom out.old used }
     ensures { (out.new ≡ textWritten out.old used (last_line outcome)) × Concluded outcome result }
 {
-    if let Outcome::WriteFailed { at: _, error: _ } = outcome {
+    if let Some(ended) = outcome
+        && let Outcome::WriteFailed { at: _, error: _ } = ended
+    {
         return outcome;
     }
     let end = said::last_line(out, used, outcome);
-    let flushed = output::flush(sink, out, end);
-    let all = written.wrapping_add(flushed.bytes as u64);
-    outcome::after_flush(outcome, end, flushed.bytes, all, flushed.error)
+    match output::flush(sink, out, end) {
+        Ok(()) => outcome,
+        Err(hole) => Some(outcome::write_failed(written, hole)),
+    }
 }
 
 // The tables are sound to the end.
@@ -157,37 +150,19 @@ pub fn list<R: Read, W: Write>(
     sink: &mut W,
     buffer: &mut [u8],
     out: &mut [u8],
-    sequence_channels: &mut [u32],
-    sequence_numbers: &mut [u32],
-    partial_channels: &mut [u32],
-    partial_sequences: &mut [u32],
-    partial_reliables: &mut [u32],
+    columns: &mut ReaderColumns<'_>,
 ) -> Ended
-    requires { let memory = reader_memory sequence_channels.old sequence_numbers.old
-        partial_channels.old partial_sequences.old partial_reliables.old in
-        PacketRoom out.old 0
-        × TablesSound most_channels 0 0 memory }
-    ensures { let after = reader_memory sequence_channels.new sequence_numbers.new
-        partial_channels.new partial_sequences.new partial_reliables.new in
-        TablesSound most_channels result.reader.live_sequences result.reader.live_partials after }
+    requires { PacketRoom out.old 0
+        × TablesSound most_channels 0 0 (columns_memory columns.old) }
+    ensures same { SameColumns columns.old columns.new }
+    ensures state { TablesSound most_channels result.reader.live_sequences result.reader.live_partials (columns_memory columns.new) }
 {
     let refilled = input::refill(source, buffer, Part { before: 0, held: 0 }, 0);
     let part = refilled.part;
     let held = part.held;
     let version = packet_log::reading::version(&buffer[..held]);
-    if let Version::Ours = version {
-        let listed = records(
-            source,
-            sink,
-            buffer,
-            out,
-            part,
-            sequence_channels,
-            sequence_numbers,
-            partial_channels,
-            partial_sequences,
-            partial_reliables,
-        );
+    if let Ok(()) = version {
+        let listed = records(source, sink, buffer, out, part, columns);
         let reader = listed.reader;
         let reached = listed.outcome;
         return Ended {

@@ -36,18 +36,18 @@ fn state_of(line: BunchLine) -> u8
     ensures { result ≡ state line }
 {
     if line.has_channel_limit_error {
-        return b'L';
+        b'L'
+    } else if line.has_partial_error {
+        b'E'
+    } else {
+        mark_of(line.is_partial_completed, b'K')
     }
-    if line.has_partial_error {
-        return b'E';
-    }
-    mark_of(line.is_partial_completed, b'K')
 }
 
 fn zero_or_one(on: bool) -> u8
     ensures { result ≡ zero_or_one on }
 {
-    if on { b'1' } else { b'0' }
+    b'0' + u8::from(on)
 }
 
 // The line in two halves: "B, packet id, channel, sequence", and the fields after them.

@@ -14,114 +14,88 @@ use bitio_window::inner::numbers::serialized_width;
 use types::{CHANNEL_CLOSE_REASON_MAX, MAX_PACKET_SIZE_BITS};
 
 // What is left of the word, and how many of its bits were used.
-#[derive(Clone, Copy)]
+#[derive(Clone, Copy, Debug, PartialEq, Eq)]
 pub struct Rest {
     pub word: u64,
     pub used: u64,
 }
 
-#[derive(Clone, Copy)]
-pub struct QuickFlag {
-    pub value: bool,
-    pub rest: Rest,
-}
+impl Rest {
+    fn pass(&mut self, n: u64)
+        requires { (n < 64) × (self.old.used ≤ 1024) }
+        ensures { self.new ≡ shifted self.old n }
+    {
+        self.word >>= n;
+        self.used += n;
+    }
 
-#[derive(Clone, Copy)]
-pub struct QuickNumber {
-    pub value: u32,
-    pub rest: Rest,
-}
+    fn flag(&mut self, wanted: bool) -> bool
+        requires { self.old.used ≤ 1024 }
+        ensures { Reads (read_if wanted false bit) self.old result self.new × (self.new.used ≤ self.old.used + 1) }
+    {
+        let value = wanted & (self.word % 2 == 1);
+        self.pass(only_if(wanted, 1));
+        value
+    }
 
-#[derive(Clone, Copy)]
-pub struct QuickFields {
-    pub fields: BunchFields,
-    pub rest: Rest,
-}
+    // Of one or two bytes; a longer one uses more bits than a word has.
+    fn packed(&mut self, wanted: bool) -> u32
+        requires { self.old.used ≤ 1024 }
+        ensures { Reads (read_if wanted 0 packed) self.old result self.new × (self.new.used ≤ self.old.used + 63) }
+    {
+        let second = wanted & (self.word % 2 == 1);
+        let third = second & (self.word / 256 % 2 == 1);
+        let width = only_if(wanted, 8) + only_if(second, 8) + only_if(third, 47);
+        let bytes = low(width, self.word);
+        self.pass(width);
+        (low(7, bytes / 2) + low(7, bytes / 512) * 128) as u32
+    }
 
-fn pass(q: Rest, n: u64) -> Rest
-    requires { (n < 64) × (q.used ≤ 1024) }
-    ensures { result ≡ shifted q n }
-{
-    Rest {
-        word: q.word >> n,
-        used: q.used + n,
+    // One field, of as many bits as its lowest ones say.
+    fn serialized(&mut self, wanted: bool, max: u32) -> u32
+        requires { (self.old.used ≤ 1024) × (0 < max) }
+        ensures { Reads (read_if wanted 0 (serialized max)) self.old result self.new × (self.new.used ≤ self.old.used + 32) }
+    {
+        let width = only_if(wanted, serialized_width(self.word, max));
+        let value = low(width, self.word);
+        self.pass(width);
+        value as u32
     }
 }
 
-fn flag(q: Rest, wanted: bool) -> QuickFlag
-    requires { q.used ≤ 1024 }
-    ensures { Reads (read_if wanted false bit) q result.value result.rest × (result.rest.used ≤ q.used + 1) }
+pub fn fields_of(rest: &mut Rest) -> BunchFields
+    requires { rest.old.used ≡ 0 }
+    ensures { Reads fields rest.old result rest.new }
 {
-    QuickFlag {
-        value: wanted & (q.word % 2 == 1),
-        rest: pass(q, only_if(wanted, 1)),
-    }
-}
-
-// Of one or two bytes; a longer one uses more bits than a word has.
-fn packed(q: Rest, wanted: bool) -> QuickNumber
-    requires { q.used ≤ 1024 }
-    ensures { Reads (read_if wanted 0 packed) q result.value result.rest × (result.rest.used ≤ q.used + 63) }
-{
-    let second = wanted & (q.word % 2 == 1);
-    let third = second & (q.word / 256 % 2 == 1);
-    let width = only_if(wanted, 8) + only_if(second, 8) + only_if(third, 47);
-    let bytes = low(width, q.word);
-    QuickNumber {
-        value: (low(7, bytes / 2) + low(7, bytes / 512) * 128) as u32,
-        rest: pass(q, width),
-    }
-}
-
-// One field, of as many bits as its lowest ones say.
-fn serialized(q: Rest, wanted: bool, max: u32) -> QuickNumber
-    requires { (q.used ≤ 1024) × (0 < max) }
-    ensures { Reads (read_if wanted 0 (serialized max)) q result.value result.rest × (result.rest.used ≤ q.used + 32) }
-{
-    let width = only_if(wanted, serialized_width(q.word, max));
-    QuickNumber {
-        value: low(width, q.word) as u32,
-        rest: pass(q, width),
-    }
-}
-
-pub fn fields_of(word: u64) -> QuickFields
-    ensures { Reads fields (record { word = word; used = 0 }) result.fields result.rest }
-{
-    let whole = Rest { word, used: 0 };
-    let control = flag(whole, true);
-    let b_open = flag(control.rest, control.value);
-    let b_close = flag(b_open.rest, control.value);
-    let reason = serialized(b_close.rest, b_close.value, CHANNEL_CLOSE_REASON_MAX);
-    let paused = flag(reason.rest, true);
-    let reliable = flag(paused.rest, true);
-    let channel = packed(reliable.rest, true);
-    let exports = flag(channel.rest, true);
-    let mapped = flag(exports.rest, true);
-    let partial = flag(mapped.rest, true);
-    let ignored = flag(partial.rest, true);
-    let initial = flag(ignored.rest, partial.value);
-    let last = flag(initial.rest, partial.value);
-    let named = reliable.value | b_open.value;
-    let hardcoded = flag(last.rest, named);
-    let name = packed(hardcoded.rest, named);
-    let count = serialized(name.rest, true, MAX_PACKET_SIZE_BITS);
-    let rest = count.rest;
-    QuickFields {
-        fields: BunchFields {
-            b_open: b_open.value,
-            b_close: b_close.value,
-            close_reason: reason.value,
-            b_is_replication_paused: paused.value,
-            b_reliable: reliable.value,
-            ch_index: channel.value,
-            b_has_package_map_exports: exports.value,
-            b_has_must_be_mapped_guids: mapped.value,
-            b_partial: partial.value,
-            b_partial_initial: initial.value,
-            b_partial_final: last.value,
-            payload_bit_count: count.value,
-        },
-        rest,
+    let control = rest.flag(true);
+    let b_open = rest.flag(control);
+    let b_close = rest.flag(control);
+    let close_reason = rest.serialized(b_close, CHANNEL_CLOSE_REASON_MAX);
+    let b_is_replication_paused = rest.flag(true);
+    let b_reliable = rest.flag(true);
+    let ch_index = rest.packed(true);
+    let b_has_package_map_exports = rest.flag(true);
+    let b_has_must_be_mapped_guids = rest.flag(true);
+    let b_partial = rest.flag(true);
+    let _ignored = rest.flag(true);
+    let b_partial_initial = rest.flag(b_partial);
+    let b_partial_final = rest.flag(b_partial);
+    let named = b_reliable | b_open;
+    let _hardcoded = rest.flag(named);
+    let _name = rest.packed(named);
+    let payload_bit_count = rest.serialized(true, MAX_PACKET_SIZE_BITS);
+    BunchFields {
+        b_open,
+        b_close,
+        close_reason,
+        b_is_replication_paused,
+        b_reliable,
+        ch_index,
+        b_has_package_map_exports,
+        b_has_must_be_mapped_guids,
+        b_partial,
+        b_partial_initial,
+        b_partial_final,
+        payload_bit_count,
     }
 }

@@ -9,15 +9,16 @@ ghost use Rattle.packet_tracking.specs.Fits.{TableFits};
 
 use bitio_bits::inner::signed;
 use packet_header::BunchFields;
+use packet_tracking::inner::partials::Tracked;
 use packet_tracking::inner::sequences::Numbered;
-use types::{PartialSequenceKind, RawBunchHeader};
+use types::{ChannelCloseReason, RawBunchHeader};
 
 // The zeros above the highest set bit of the last byte.
 fn padding(last: u8) -> u64
     requires { 0 < last }
     ensures { (result ≡ count_leading_zeros 8 last) × (result ≤ 7) }
 {
-    u8::leading_zeros(last) as u64
+    u64::from(last.leading_zeros())
 }
 
 // The bits before the end mark, 0 without one: the Rust's `compute_bit_size`.
@@ -45,14 +46,14 @@ fn unreliable(f: BunchFields, id: u32) -> u32
 pub fn number(
     channels: &mut [u32],
     numbers: &mut [u32],
-    live: usize,
+    live: &mut usize,
     limit: usize,
     f: BunchFields,
     id: u32,
 ) -> Numbered
-    requires { TableFits limit live channels.old × (limit ≤ length numbers.old) }
-    ensures { let numbering = numbered limit id f (sequences_at live channels.old numbers.old) in
-        numbered_in result channels.new numbers.new
+    requires { TableFits limit live.old channels.old × (limit ≤ length numbers.old) }
+    ensures { let numbering = numbered limit id f (sequences_at live.old channels.old numbers.old) in
+        numbered_in result live.new channels.new numbers.new
         ≡ sequences_laid numbering channels.old numbers.old }
 {
     if f.b_reliable {
@@ -63,24 +64,15 @@ pub fn number(
     Numbered {
         sequence: unreliable(f, id),
         limited: false,
-        live,
     }
 }
 
-pub fn header_of(
-    f: BunchFields,
-    id: u32,
-    position: u64,
-    sequence: u32,
-    limited: bool,
-    error: bool,
-    completed: bool,
-) -> RawBunchHeader
-    ensures { result ≡ header f id position sequence limited error completed }
+pub fn header_of(f: BunchFields, id: u32, position: u64, n: Numbered, k: Tracked) -> RawBunchHeader
+    ensures { result ≡ header f id position n.sequence n.limited k.error k.completed }
 {
     let packet_id = signed::of_word(id);
-    let ch_sequence = signed::of_word(sequence);
-    let close_reason = types::from_raw(f.close_reason as u64);
+    let ch_sequence = signed::of_word(n.sequence);
+    let close_reason = ChannelCloseReason::from_raw(u64::from(f.close_reason));
     RawBunchHeader {
         packet_id,
         ch_index: f.ch_index,
@@ -98,9 +90,9 @@ pub fn header_of(
         close_reason,
         payload_bit_count: f.payload_bit_count,
         payload_bit_offset: position,
-        has_partial_error: error,
-        partial_error_kind: PartialSequenceKind::None,
-        is_partial_completed: completed,
-        has_channel_limit_error: limited,
+        has_partial_error: k.error,
+        partial_error_kind: None,
+        is_partial_completed: k.completed,
+        has_channel_limit_error: n.limited,
     }
 }

@@ -1,44 +1,41 @@
 // The partial tracker: the Rust's `track_partial_bunch` and `validate_continuation`.
-ghost use Rattle.std.specs.Prelude.{◌≡◌, ◌≤◌, length, take};
-ghost use Rattle.tables.specs.declared.Slot.{Slot};
+ghost use Rattle.std.specs.Prelude.{◌≡◌, ◌≤◌, length, take, Ok, Err};
 ghost use Rattle.tables.specs.Tables.{slot_of};
-ghost use Rattle.packet_tracking.specs.Partials.{tracked, initial, continuing, judged};
+ghost use Rattle.packet_tracking.specs.Partials.{tracked, initial, continuing, judged, effected, in_flight};
 ghost use Rattle.packet_tracking.specs.Verdicts.{Roomy, in_flight_of, tracking_effect, verdict_of};
-ghost use Rattle.packet_tracking.specs.PartialColumns.{tracked_in, effected_in, fragment_to, tracks_to};
+ghost use Rattle.packet_tracking.specs.PartialColumns.{partials_at, LaidPartials, tracked_in, fragment_to, tracks_to};
 ghost use Rattle.packet_tracking.specs.Fits.{TableFits, TableLive};
 
 use crate::inner::retire::take_out;
 use packet_header::BunchFields;
-use tables::{Slot, inner};
+use tables::inner;
 use types::continuing::continues;
 
-#[derive(Clone, Copy)]
-pub struct Tracked {
-    pub error: bool,
-    pub completed: bool,
-    pub live: usize,
-}
-
-// What is in flight on the bunch's channel, as its words.
-#[derive(Clone, Copy)]
-pub enum Held {
-    Nothing,
-    InFlight { sequence: u32, reliable: u32 },
+// What is in flight on a channel, as its words.
+#[derive(Clone, Copy, Debug, PartialEq, Eq)]
+pub struct InFlight {
+    pub sequence: u32,
+    pub reliable: u32,
 }
 
 // What becomes of it.
-#[derive(Clone, Copy)]
+#[derive(Clone, Copy, Debug, PartialEq, Eq)]
 pub enum Effect {
     Stays,
     Puts,
     Removed,
 }
 
-#[derive(Clone, Copy)]
-pub struct Verdict {
-    pub effect: Effect,
+#[derive(Clone, Copy, Debug, PartialEq, Eq)]
+pub struct Tracked {
     pub error: bool,
     pub completed: bool,
+}
+
+#[derive(Clone, Copy, Debug, PartialEq, Eq)]
+pub struct Verdict {
+    pub effect: Effect,
+    pub tracked: Tracked,
 }
 
 fn ruled(effect: Effect, error: bool, completed: bool) -> Verdict
@@ -46,46 +43,29 @@ fn ruled(effect: Effect, error: bool, completed: bool) -> Verdict
 {
     Verdict {
         effect,
-        error,
-        completed,
+        tracked: Tracked { error, completed },
     }
 }
 
-fn initial(held: Held, last: bool, full: bool) -> Verdict
+fn initial(held: Option<InFlight>, last: bool, full: bool) -> Verdict
     ensures { verdict_of result ≡ initial last full (in_flight_of held) }
 {
-    match held {
-        Held::Nothing => {
-            if last {
-                return ruled(Effect::Removed, false, true);
-            }
-            if full {
-                return ruled(Effect::Stays, true, false);
-            }
-            ruled(Effect::Puts, false, false)
-        }
-        Held::InFlight {
-            sequence: _,
-            reliable: _,
-        } => {
-            if last {
-                return ruled(Effect::Removed, true, false);
-            }
-            ruled(Effect::Puts, true, false)
-        }
+    match (held, last) {
+        (None, true) => ruled(Effect::Removed, false, true),
+        (None, false) if full => ruled(Effect::Stays, true, false),
+        (None, false) => ruled(Effect::Puts, false, false),
+        (Some(_), true) => ruled(Effect::Removed, true, false),
+        (Some(_), false) => ruled(Effect::Puts, true, false),
     }
 }
 
-fn continuing(held: Held, last: bool, reliable: bool, next: u32) -> Verdict
+fn continuing(held: Option<InFlight>, last: bool, reliable: bool, next: u32) -> Verdict
     ensures { verdict_of result ≡ continuing last reliable next (in_flight_of held) }
 {
     match held {
-        Held::Nothing => ruled(Effect::Stays, true, false),
-        Held::InFlight {
-            sequence: previous,
-            reliable: word,
-        } => {
-            if !continues(previous, word, reliable, next) {
+        None => ruled(Effect::Stays, true, false),
+        Some(p) => {
+            if !continues(p.sequence, p.reliable, reliable, next) {
                 return ruled(Effect::Removed, true, false);
             }
             if last {
@@ -96,7 +76,8 @@ fn continuing(held: Held, last: bool, reliable: bool, next: u32) -> Verdict
     }
 }
 
-pub fn judge(held: Held, f: BunchFields, sequence: u32, full: bool) -> Verdict
+#[tactic(auto, unfolding(crate::specs::Partials::judged))]
+pub fn judge(held: Option<InFlight>, f: BunchFields, sequence: u32, full: bool) -> Verdict
     ensures { verdict_of result ≡ judged f sequence full (in_flight_of held) }
 {
     if f.b_partial_initial {
@@ -110,43 +91,27 @@ fn edit_there(
     channels: &mut [u32],
     sequences: &mut [u32],
     reliables: &mut [u32],
-    live: usize,
+    live: &mut usize,
     i: usize,
     f: BunchFields,
     sequence: u32,
-    v: Verdict,
-) -> Tracked
-    requires { TableLive live channels.old
-        × (live ≤ length sequences.old)
-        × (live ≤ length reliables.old)
-        × (slot_of f.ch_index (take live channels.old) ≡ Slot.At i) }
-    ensures { tracked_in result channels.new sequences.new reliables.new
-        ≡ effected_in (verdict_of v) f sequence live channels.old sequences.old reliables.old }
+    effect: Effect,
+)
+    requires { TableLive live.old channels.old
+        × (live.old ≤ length sequences.old)
+        × (live.old ≤ length reliables.old)
+        × (slot_of f.ch_index (take live.old channels.old) ≡ Ok i) }
+    ensures { let t = partials_at live.old channels.old sequences.old reliables.old in
+        LaidPartials (effected (tracking_effect effect) f.ch_index (in_flight f sequence) t)
+        channels.old sequences.old reliables.old live.new channels.new sequences.new reliables.new }
 {
-    let effect = v.effect;
     match effect {
-        Effect::Stays => Tracked {
-            error: v.error,
-            completed: v.completed,
-            live,
-        },
+        Effect::Stays => {}
         Effect::Puts => {
             sequences[i] = sequence;
-            reliables[i] = f.b_reliable as u32;
-            Tracked {
-                error: v.error,
-                completed: v.completed,
-                live,
-            }
+            reliables[i] = u32::from(f.b_reliable);
         }
-        Effect::Removed => {
-            let left = take_out(channels, sequences, reliables, live, i);
-            Tracked {
-                error: v.error,
-                completed: v.completed,
-                live: left,
-            }
-        }
+        Effect::Removed => take_out(channels, sequences, reliables, live, i),
     }
 }
 
@@ -155,42 +120,29 @@ fn edit_free(
     channels: &mut [u32],
     sequences: &mut [u32],
     reliables: &mut [u32],
-    live: usize,
+    live: &mut usize,
     i: usize,
     f: BunchFields,
     sequence: u32,
-    v: Verdict,
-) -> Tracked
-    requires { TableLive live channels.old
-        × (live ≤ length sequences.old)
-        × (live ≤ length reliables.old)
-        × (slot_of f.ch_index (take live channels.old) ≡ Slot.Free i)
-        × Roomy v live channels.old sequences.old reliables.old }
-    ensures { tracked_in result channels.new sequences.new reliables.new
-        ≡ effected_in (verdict_of v) f sequence live channels.old sequences.old reliables.old }
+    effect: Effect,
+)
+    requires { TableLive live.old channels.old
+        × (live.old ≤ length sequences.old)
+        × (live.old ≤ length reliables.old)
+        × (slot_of f.ch_index (take live.old channels.old) ≡ Err i)
+        × Roomy effect live.old channels.old sequences.old reliables.old }
+    ensures { let t = partials_at live.old channels.old sequences.old reliables.old in
+        LaidPartials (effected (tracking_effect effect) f.ch_index (in_flight f sequence) t)
+        channels.old sequences.old reliables.old live.new channels.new sequences.new reliables.new }
 {
-    let effect = v.effect;
     match effect {
         Effect::Puts => {
-            inner::insert(channels, live, i, f.ch_index);
-            inner::insert(sequences, live, i, sequence);
-            inner::insert(reliables, live, i, f.b_reliable as u32);
-            Tracked {
-                error: v.error,
-                completed: v.completed,
-                live: live + 1,
-            }
+            inner::insert(channels, *live, i, f.ch_index);
+            inner::insert(sequences, *live, i, sequence);
+            inner::insert(reliables, *live, i, u32::from(f.b_reliable));
+            *live += 1;
         }
-        Effect::Stays => Tracked {
-            error: v.error,
-            completed: v.completed,
-            live,
-        },
-        Effect::Removed => Tracked {
-            error: v.error,
-            completed: v.completed,
-            live,
-        },
+        Effect::Stays | Effect::Removed => {}
     }
 }
 
@@ -198,27 +150,33 @@ fn track_fragment(
     channels: &mut [u32],
     sequences: &mut [u32],
     reliables: &mut [u32],
-    live: usize,
+    live: &mut usize,
     limit: usize,
     f: BunchFields,
     sequence: u32,
 ) -> Tracked
-    requires { TableFits limit live channels.old × (limit ≤ length sequences.old) × (limit ≤ length reliables.old) }
-    ensures { tracked_in result channels.new sequences.new reliables.new
-        ≡ fragment_to limit live f sequence channels.old sequences.old reliables.old }
+    requires { TableFits limit live.old channels.old × (limit ≤ length sequences.old) × (limit ≤ length reliables.old) }
+    ensures { tracked_in result live.new channels.new sequences.new reliables.new
+        ≡ fragment_to limit live.old f sequence channels.old sequences.old reliables.old }
 {
-    match inner::find(channels, live, f.ch_index) {
-        Slot::At(i) => {
-            let held = Held::InFlight {
+    match inner::find(channels, *live, f.ch_index) {
+        Ok(i) => {
+            let held = InFlight {
                 sequence: sequences[i],
                 reliable: reliables[i],
             };
-            let v = judge(held, f, sequence, limit <= live);
-            edit_there(channels, sequences, reliables, live, i, f, sequence, v)
+            let v = judge(Some(held), f, sequence, limit <= *live);
+            edit_there(
+                channels, sequences, reliables, live, i, f, sequence, v.effect,
+            );
+            v.tracked
         }
-        Slot::Free(i) => {
-            let v = judge(Held::Nothing, f, sequence, limit <= live);
-            edit_free(channels, sequences, reliables, live, i, f, sequence, v)
+        Err(i) => {
+            let v = judge(None, f, sequence, limit <= *live);
+            edit_free(
+                channels, sequences, reliables, live, i, f, sequence, v.effect,
+            );
+            v.tracked
         }
     }
 }
@@ -228,15 +186,15 @@ pub fn track(
     channels: &mut [u32],
     sequences: &mut [u32],
     reliables: &mut [u32],
-    live: usize,
+    live: &mut usize,
     limit: usize,
     f: BunchFields,
     sequence: u32,
     limited: bool,
 ) -> Tracked
-    requires { TableFits limit live channels.old × (limit ≤ length sequences.old) × (limit ≤ length reliables.old) }
-    ensures { tracked_in result channels.new sequences.new reliables.new
-        ≡ tracks_to limit live f sequence limited channels.old sequences.old reliables.old }
+    requires { TableFits limit live.old channels.old × (limit ≤ length sequences.old) × (limit ≤ length reliables.old) }
+    ensures { tracked_in result live.new channels.new sequences.new reliables.new
+        ≡ tracks_to limit live.old f sequence limited channels.old sequences.old reliables.old }
 {
     if f.b_partial & !limited {
         return track_fragment(channels, sequences, reliables, live, limit, f, sequence);
@@ -244,6 +202,5 @@ pub fn track(
     Tracked {
         error: false,
         completed: false,
-        live,
     }
 }

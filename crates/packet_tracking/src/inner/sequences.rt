@@ -6,14 +6,13 @@ ghost use Rattle.packet_tracking.specs.Sequences.{reliably};
 ghost use Rattle.packet_tracking.specs.SequenceColumns.{sequences_at, numbered_in, sequences_laid, LaidSequences};
 ghost use Rattle.packet_tracking.specs.Fits.{TableFits, TableLive};
 
-use tables::{Slot, inner};
+use tables::inner;
 use types::continuing::{LAST_SEQUENCE, following};
 
-#[derive(Clone, Copy)]
+#[derive(Clone, Copy, Debug, PartialEq, Eq)]
 pub struct Numbered {
     pub sequence: u32,
     pub limited: bool,
-    pub live: usize,
 }
 
 // Whether no sequence follows.
@@ -26,23 +25,22 @@ fn is_last(sequence: u32) -> bool
 pub fn reliably(
     channels: &mut [u32],
     numbers: &mut [u32],
-    live: usize,
+    live: &mut usize,
     limit: usize,
     channel: u32,
 ) -> Numbered
-    requires { TableFits limit live channels.old × (limit ≤ length numbers.old) }
-    ensures { let numbering = reliably limit channel (sequences_at live channels.old numbers.old) in
-        numbered_in result channels.new numbers.new
+    requires { TableFits limit live.old channels.old × (limit ≤ length numbers.old) }
+    ensures { let numbering = reliably limit channel (sequences_at live.old channels.old numbers.old) in
+        numbered_in result live.new channels.new numbers.new
         ≡ sequences_laid numbering channels.old numbers.old }
 {
-    match inner::find(channels, live, channel) {
-        Slot::At(i) => {
+    match inner::find(channels, *live, channel) {
+        Ok(i) => {
             let previous = numbers[i];
             if is_last(previous) {
                 return Numbered {
                     sequence: previous,
                     limited: true,
-                    live,
                 };
             }
             let next = following(previous);
@@ -50,45 +48,38 @@ pub fn reliably(
             Numbered {
                 sequence: next,
                 limited: false,
-                live,
             }
         }
-        Slot::Free(i) => {
-            if limit <= live {
+        Err(i) => {
+            if limit <= *live {
                 return Numbered {
                     sequence: 1,
                     limited: true,
-                    live,
                 };
             }
-            inner::insert(channels, live, i, channel);
-            inner::insert(numbers, live, i, 1);
+            inner::insert(channels, *live, i, channel);
+            inner::insert(numbers, *live, i, 1);
+            *live += 1;
             Numbered {
                 sequence: 1,
                 limited: false,
-                live: live + 1,
             }
         }
     }
 }
 
 // The channel's place falls vacant: the Rust's `retire_channel`, for this table.
-pub fn retire_sequence(
-    channels: &mut [u32],
-    numbers: &mut [u32],
-    live: usize,
-    channel: u32,
-) -> usize
-    requires { TableLive live channels.old × (live ≤ length numbers.old) }
-    ensures { let left = without channel (sequences_at live channels.old numbers.old) in
-        LaidSequences left channels.old numbers.old result channels.new numbers.new }
+pub fn retire_sequence(channels: &mut [u32], numbers: &mut [u32], live: &mut usize, channel: u32)
+    requires { TableLive live.old channels.old × (live.old ≤ length numbers.old) }
+    ensures { let left = without channel (sequences_at live.old channels.old numbers.old) in
+        LaidSequences left channels.old numbers.old live.new channels.new numbers.new }
 {
-    match inner::find(channels, live, channel) {
-        Slot::At(i) => {
-            inner::remove(channels, live, i);
-            inner::remove(numbers, live, i);
-            live - 1
+    match inner::find(channels, *live, channel) {
+        Ok(i) => {
+            inner::remove(channels, *live, i);
+            inner::remove(numbers, *live, i);
+            *live -= 1;
         }
-        Slot::Free(_) => live,
+        Err(_) => {}
     }
 }

@@ -4,6 +4,7 @@ use mathlib.Core.List.{List}
 use Prim.Native.Nat.{ℕ}
 use lib.IntN.{ℤ}
 use lib.ListN.{get_or}
+use Rattle.std.specs.Prelude.{Option}
 use mir.Syntax.{w32}
 use mir.ValLaws.{to_z-of_z}
 use Rattle.bitio_bits.specs.Floats.{signed}
@@ -15,7 +16,7 @@ use Rattle.words.specs.Words.{flag_at, low, kind_of, header_from}
 use Rattle.words.proofs.header_of.Goals as goal
 
 -- the fields that have functions of their own, as these answer them
-of_words : (w : List ℕ) {id sequence : ℤ} {reason : ChannelCloseReason} {kind : PartialSequenceKind}
+of_words : (w : List ℕ) {id sequence : ℤ} {reason : ChannelCloseReason} {kind : Option PartialSequenceKind}
     → id ≡ signed (low w 0) → sequence ≡ signed (low w 12) → reason ≡ reason_of (get_or w 13 0) → kind ≡ kind_of (get_or w 17 0)
     → ◌≡◌ {A = RawBunchHeader}
     (record {

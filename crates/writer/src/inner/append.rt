@@ -6,8 +6,8 @@ ghost use Rattle.writer_spelling.specs.Header.{header_bits};
 ghost use Rattle.writer_spelling.specs.Words.{spelt, Piece};
 ghost use Rattle.writer.specs.Answers.{replied, appended};
 
+use crate::WriteError;
 use crate::inner::{push, room};
-use crate::{WriteError, Written};
 use bitio_window::PacketBit;
 use packet_header::BunchFields;
 use writer_spelling::inner::{Bits, words};
@@ -22,7 +22,7 @@ fn lay_header(packet: &mut [u8], at: u64, front: Bits, back: Bits)
         push::push(packet, at + front.count, back);
         return;
     }
-    push::push(packet, at, words::add(front, back.word, back.count));
+    push::push(packet, at, front.add(back.word, back.count));
 }
 
 // The header and the payload.
@@ -40,7 +40,12 @@ fn lay(packet: &mut [u8], at: u64, front: Bits, back: Bits, payload: &[u8], coun
     push::payload(packet, at + front.count + back.count, payload, count);
 }
 
-pub fn append(f: BunchFields, payload: &[u8], packet: &mut [u8], at: u64) -> Written
+pub fn append(
+    f: BunchFields,
+    payload: &[u8],
+    packet: &mut [u8],
+    at: u64,
+) -> Result<PacketBit, WriteError>
     requires { (f.close_reason < close_reason_maximum)
         × (f.payload_bit_count ≤ longest_payload)
         × (f.payload_bit_count ≤ 8 * length payload.now) }
@@ -51,11 +56,7 @@ pub fn append(f: BunchFields, payload: &[u8], packet: &mut [u8], at: u64) -> Wri
     let back = words::back(f);
     let count = f.payload_bit_count as u64;
     let more = front.count + back.count + count;
-    if room::none_for(packet.len(), at, more) {
-        return Written::Refused(WriteError::NoRoom {
-            bits: room::bits_with(at, more),
-        });
-    }
+    room::found(packet.len(), at, more)?;
     lay(packet, at, front, back, payload, count);
-    Written::To(PacketBit(at + more))
+    Ok(PacketBit(at + more))
 }

@@ -1,5 +1,5 @@
 // Bits into a packet, whole bytes at a time: those of a word, and those of a payload.
-ghost use Rattle.std.specs.Prelude.{◌≡◌, ◌+◌, ◌*◌, ◌%◌, ◌≤◌, ◌<◌, min, length};
+ghost use Rattle.std.specs.Prelude.{◌≡◌, ◌+◌, ◌*◌, ◌%◌, ◌≤◌, ◌<◌, length};
 ghost use Rattle.types.specs.Types.{longest_packet_bits};
 ghost use Rattle.writer_spelling.specs.Bits.{bits_from, put_bits};
 ghost use Rattle.writer_spelling.specs.Words.{spelt, Whole};
@@ -21,14 +21,8 @@ pub fn push(packet: &mut [u8], at: u64, bits: Bits)
         packet,
         place,
         kept + (bits.word << off),
-        ((off + bits.count + 7) / 8) as usize,
+        (off + bits.count).div_ceil(8) as usize,
     );
-}
-
-fn least(a: u64, b: u64) -> u64
-    ensures { result ≡ min a b }
-{
-    if a < b { a } else { b }
 }
 
 // The payload's next bits, and how many they were: what fills eight bytes from the cursor's on, and with fewer than 64 left what
@@ -57,13 +51,13 @@ fn step(packet: &mut [u8], at: u64, payload: &[u8], from: u64, left: u64) -> u64
         );
         return filling;
     }
-    let count = least(left, 56 - off);
+    let count = left.min(56 - off);
     let word = low_by_shift(count, words::peek(payload, PacketBit(from)));
     push(packet, at, Bits { word, count });
     count
 }
 
-// The first `count` bits of a payload.
+// The first `count` bits of a payload: a `while`, since a step tells how far it came.
 pub fn payload(packet: &mut [u8], at: u64, payload: &[u8], count: u64)
     requires { (count ≤ 8 * length payload.now) × (at + count ≤ 8 * length packet.old) × (at + count ≤ longest_packet_bits) }
     ensures { packet.new ≡ put_bits packet.old at (bits_from payload.now 0 count) }

@@ -3,9 +3,9 @@ use Rattle.std.proofs.Common.{sym, refl}
 use Rattle.bench_bunch.specs.Chains.{summed}
 use Rattle.bench_bunch.proofs.inner.with_added.Goals as goal
 
-pub returns-in-Result : goal.returns-in-Result
-returns-in-Result c = rw (c.in-Result.is, sym c.of_result-words.ensures) c.total.ensures
+pub returns-in-Ok : goal.returns-in-Ok
+returns-in-Ok c = rw (c.in-Ok.is, sym c.of_result-words.ensures) c.total.ensures
 
-pub returns-in-Refused : goal.returns-in-Refused
+pub returns-in-Err : goal.returns-in-Err
 unfolding summed
-returns-in-Refused c = rw c.in-Refused.is refl
+returns-in-Err c = rw c.in-Err.is refl

@@ -6,23 +6,21 @@ use Rattle.bitio_window.proofs.Rows.{refuses, lets_on}
 use Rattle.bitio.proofs.Tests.{stopped, went_on, tested}
 use Rattle.bitio.proofs.reads.read_bits.Goals as goal
 
+pub returns-in_err-test : goal.returns-in_err-test
+unfolding read_bits
+returns-in_err-test c =
+    stopped c.args.bytes.now c.args.w.now _ c.from_residual.result c.in_err-test.field-0.0 c.from_residual.ensures.1 c.in_err-test.ensures
+
 pub returns-then-count-gt64 : goal.returns-then-count-gt64
 unfolding read_bits
 returns-then-count-gt64 c =
-    let count = c.args.count in
-    sym (went_on _ _ c.test.ensures _ c.in-Value.is ∙ refuses _ _ _ _ (lt-ltb 64 count c.if-count-gt64.true))
+    sym (went_on c.args.bytes.now c.args.w.now _ c.in_ok-test.ensures ∙ refuses _ _ _ _ (lt-ltb 64 c.args.count c.if-count-gt64.true))
 
 pub bits-requires : goal.bits-requires
-bits-requires c =
-    (tested _ _ c.test.ensures c.in-Value.is, c.if-count-gt64.false)
+bits-requires c = (tested _ _ c.in_ok-test.ensures, c.if-count-gt64.false)
 
-pub returns-in-Refused : goal.returns-in-Refused
+pub returns : goal.returns
 unfolding read_bits
-returns-in-Refused c = stopped _ _ c.test.ensures _ c.in-Refused.is
-
-pub returns-else-count-gt64 : goal.returns-else-count-gt64
-unfolding read_bits
-returns-else-count-gt64 c =
-    let count = c.args.count in
+returns c =
     c.bits.ensures.0
-    ∙ sym (went_on _ _ c.test.ensures _ c.in-Value.is ∙ lets_on _ _ _ _ (le-ltb 64 count c.if-count-gt64.false))
+    ∙ sym (went_on c.args.bytes.now c.args.w.now _ c.in_ok-test.ensures ∙ lets_on _ _ _ _ (le-ltb 64 c.args.count c.if-count-gt64.false))

@@ -7,25 +7,21 @@ use Rattle.bitio_window.proofs.Rows.{refuses, lets_on}
 use Rattle.bitio.proofs.Tests.{stopped, went_on, tested}
 use Rattle.bitio.proofs.reads.read_serialized_int.Goals as goal
 
+pub returns-in_err-test : goal.returns-in_err-test
+unfolding read_serialized
+returns-in_err-test c =
+    stopped c.args.bytes.now c.args.w.now _ c.from_residual.result c.in_err-test.field-0.0 c.from_residual.ensures.1 c.in_err-test.ensures
+
 pub returns-then-max-eq0 : goal.returns-then-max-eq0
 unfolding read_serialized
 returns-then-max-eq0 c =
-    let max = c.args.max in
-    sym (went_on _ _ c.test.ensures _ c.in-Value.is ∙ refuses _ _ _ _ (eq-eqb max 0 c.if-max-eq0.true))
+    sym (went_on c.args.bytes.now c.args.w.now _ c.in_ok-test.ensures ∙ refuses _ _ _ _ (eq-eqb c.args.max 0 c.if-max-eq0.true))
 
 pub serialized-requires : goal.serialized-requires
-serialized-requires c =
-    (tested _ _ c.test.ensures c.in-Value.is, omega (arith, c.if-max-eq0.false))
+serialized-requires c = (tested _ _ c.in_ok-test.ensures, omega (arith, c.if-max-eq0.false))
 
-pub returns-in-Refused : goal.returns-in-Refused
+pub returns : goal.returns
 unfolding read_serialized
-returns-in-Refused c = stopped _ _ c.test.ensures _ c.in-Refused.is
-
-pub returns-else-max-eq0 : goal.returns-else-max-eq0
-unfolding read_serialized
-returns-else-max-eq0 c =
-    let max = c.args.max in
+returns c =
     c.serialized.ensures.0
-    ∙ sym
-    (went_on _ _ c.test.ensures _ c.in-Value.is
-    ∙ lets_on _ _ _ _ (ne_eqb max 0 c.if-max-eq0.false))
+    ∙ sym (went_on c.args.bytes.now c.args.w.now _ c.in_ok-test.ensures ∙ lets_on _ _ _ _ (ne_eqb c.args.max 0 c.if-max-eq0.false))

@@ -1,13 +1,11 @@
 -- The low 8 bits of what was read are all of it.
-use Rattle.bitio.proofs.Values.{narrowed, handed_on}
+use mathlib.Core.Path.{◌∙◌}
+use Rattle.bitio_window.proofs.Handed.{handed_on}
+use Rattle.bitio.proofs.Values.{narrowed}
 use Rattle.bitio.proofs.reads.read_u8.Goals as goal
 
-pub returns-in-Value : goal.returns-in-Value
-returns-in-Value c =
-    let a = c.args in
-    narrowed a.bytes.now a.w 8 c.read_bits-read.ensures c.in-Value.is
+pub returns-in_err-read_bits : goal.returns-in_err-read_bits
+returns-in_err-read_bits c = handed_on c.from_residual.result c.in_err-read_bits.field-0.0 _ c.from_residual.ensures.1 ∙ c.in_err-read_bits.ensures
 
-pub returns-in-Refused : goal.returns-in-Refused
-returns-in-Refused c =
-    let a = c.args in
-    handed_on a.bytes.now a.w 8 c.read_bits-read.ensures c.in-Refused.is
+pub returns : goal.returns
+returns c = narrowed c.args.bytes.now c.args.w.now 8 c.in_ok-read_bits.ensures

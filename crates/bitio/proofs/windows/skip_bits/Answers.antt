@@ -4,13 +4,14 @@ use Rattle.bitio_window.specs.Windows.{skip_bits}
 use Rattle.bitio.proofs.Tests.{stopped, went_on, tested}
 use Rattle.bitio.proofs.windows.skip_bits.Goals as goal
 
-pub returns-in-Refused : goal.returns-in-Refused
+pub returns-in_err-test : goal.returns-in_err-test
 unfolding skip_bits
-returns-in-Refused c = stopped _ _ c.test.ensures _ c.in-Refused.is
+returns-in_err-test c =
+    stopped c.args.bytes.now c.args.w.now _ c.from_residual.result c.in_err-test.field-0.0 c.from_residual.ensures.1 c.in_err-test.ensures
 
 pub skip-requires : goal.skip-requires
-skip-requires c = (tested _ _ c.test.ensures c.in-Value.is).cursor_within
+skip-requires c = (tested _ _ c.in_ok-test.ensures).cursor_within
 
-pub returns-in-Value : goal.returns-in-Value
+pub returns : goal.returns
 unfolding skip_bits
-returns-in-Value c = c.skip.ensures _ ∙ sym (went_on _ _ c.test.ensures _ c.in-Value.is)
+returns c = c.skip.ensures _ ∙ sym (went_on c.args.bytes.now c.args.w.now _ c.in_ok-test.ensures)

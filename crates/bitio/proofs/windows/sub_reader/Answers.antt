@@ -5,15 +5,14 @@ use Rattle.bitio_window.specs.Windows.{sub_reader}
 use Rattle.bitio.proofs.Tests.{stopped, went_on, tested}
 use Rattle.bitio.proofs.windows.sub_reader.Goals as goal
 
-pub returns-in-Refused : goal.returns-in-Refused
+pub returns-in_err-test : goal.returns-in_err-test
 unfolding sub_reader
-returns-in-Refused c = stopped _ _ c.test.ensures _ c.in-Refused.is
+returns-in_err-test c =
+    stopped c.args.bytes.now c.args.w.now _ c.from_residual.result c.in_err-test.field-0.0 c.from_residual.ensures.1 c.in_err-test.ensures
 
 pub sub-requires : goal.sub-requires
-sub-requires c =
-    let s = tested _ _ c.test.ensures c.in-Value.is in
-    (s.cursor_within, omega (arith, s, c.well_formed))
+sub-requires c = let s = tested _ _ c.in_ok-test.ensures in (s.cursor_within, λ h. omega (arith, s, h))
 
-pub returns-in-Value : goal.returns-in-Value
+pub returns : goal.returns
 unfolding sub_reader
-returns-in-Value c = c.sub.ensures _ ∙ sym (went_on _ _ c.test.ensures _ c.in-Value.is)
+returns c = c.sub.ensures _ ∙ sym (went_on c.args.bytes.now c.args.w.now _ c.in_ok-test.ensures)

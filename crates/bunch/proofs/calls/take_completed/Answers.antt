@@ -1,22 +1,25 @@
 -- Past the test the inner form gives the reply.
 use mathlib.Core.Path.{sym, ◌∙◌}
-use Rattle.bunch_held.specs.Memory.{held_memory}
+use borrow.Author.Rules.{rules}
+use Rattle.bunch_held.specs.Memory.{memory_of}
 use Rattle.bunch_held.specs.Steps.{taking, locally, local}
-use Rattle.bunch_settling.proofs.Giving.{goes, ten, passed}
+use Rattle.bunch_settling.proofs.Giving.{goes_back, ten, passed}
+use Rattle.std.proofs.lemmas.Result.{err_from_is_err_and}
 use Rattle.bunch.proofs.calls.take_completed.Goals as goal
 
-pub returns-in-Sound : goal.returns-in-Sound
+pub returns-clause-reply : goal.returns-clause-reply
 unfolding locally local
-returns-in-Sound c =
+returns-clause-reply c =
     let a = c.args in
-    let m = held_memory a.channels.now a.places.now a.arena.now in
-    rw c.taken.ensures (goes a.a m a.ch_index taking a.output.now (passed _ _ _ (sym c.pass-checked.ensures ∙ c.in-Sound.is)) c.take_completed-given.ensures)
+    let m = memory_of a.memory.now in
+    goes_back a.a.now m a.ch_index taking a.output.now (passed _ _ _ (sym c.test.ensures ∙ c.in_ok-used.was)) (search rules) (search rules) (search rules) c.take_completed-answer.ensures.gives
 
-pub returns-in-Unsound : goal.returns-in-Unsound
-returns-in-Unsound c =
+pub returns-in_err-used-clause-reply : goal.returns-in_err-used-clause-reply
+returns-in_err-used-clause-reply c =
     let a = c.args in
-    let m = held_memory a.channels.now a.places.now a.arena.now in
-    rw c.refused.ensures (ten a.a m a.ch_index taking a.output.now (sym c.pass-checked.ensures ∙ c.in-Unsound.is))
+    let m = memory_of a.memory.now in
+    let e = err_from_is_err_and c.from_residual.result c.from_residual.ensures.1 in
+    rw (e.1, e.2) (ten a.a.now m a.ch_index taking a.output.now (sym c.test.ensures ∙ c.in_err-used.was))
 
-pub take_completed-given-requires : goal.take_completed-given-requires
-take_completed-given-requires c = passed _ _ _ (sym c.pass-checked.ensures ∙ c.in-Sound.is)
+pub take_completed-answer-requires : goal.take_completed-answer-requires
+take_completed-answer-requires c = passed _ _ _ (sym c.test.ensures ∙ c.in_ok-used.was)

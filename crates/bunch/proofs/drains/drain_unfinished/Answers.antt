@@ -1,69 +1,71 @@
 -- The tests are laws of DrainCalls; past them `list_all`, whose memory the first test showed sound.
 use Prim.Native.Nat.{ℕ}
-use mathlib.Core.Path.{◌≡◌, ap, ◌∙◌}
+use mathlib.Core.Path.{◌≡◌, sym, ap, ◌∙◌}
 use mathlib.Core.Bool.{true}
 use native.Mathlib.Omega.{arith}
 use Rattle.bitio_window.specs.Refusals.{output_short, too_few_places}
 use Rattle.bunch_held.specs.Memory.{held_memory}
 use Rattle.bunch_held.specs.Sound.{memory_sound}
-use Rattle.bunch_held.proofs.Soundness.{stands}
+use Rattle.bunch_held.proofs.Soundness.{stands, passes}
 use Rattle.bunch_held.proofs.Holding.{start_asks}
 use Rattle.bunch.specs.Draining.{drain_refuses}
-use Rattle.bunch.proofs.DrainCalls.{passed, failed, messages_are, bytes_are, ten, thirteen, fourteen, all_listed}
-use Rattle.bunch.proofs.drains.drain_unfinished.Goals.{After-emptied, After-list_all-arg-2-1, In-Sound, Then-list-wanted, Then-output-wanted}
+use Rattle.std.proofs.lemmas.Result.{err_from_is_err_and}
+use Rattle.bunch_settling.proofs.Giving.{refuses, passed}
+use Rattle.bunch.proofs.DrainCalls.{messages_are, bytes_are, ten, thirteen, fourteen, all_listed}
+use Rattle.bunch.proofs.drains.drain_unfinished.Goals.{In_ok-pass}
 use Rattle.bunch.proofs.drains.drain_unfinished.Goals as goal
 
 -- past the first test
-here : (e : In-Sound) → let a = e.args in
-    memory_sound a.a (held_memory a.channels.now a.places.now a.arena.now) ≡ true
-here e =
-    let a = e.args in
-    passed a.a (held_memory a.channels.now a.places.now a.arena.now) e.pass-checked.ensures e.in-Sound.is
+here : (e : In_ok-pass) → let a = e.args in
+    memory_sound a.a.now (held_memory a.channels.now a.places.now a.arena.now) ≡ true
+here e = passes _ _ (passed _ _ _ (sym e.pass.ensures ∙ e.in_ok-pass.was)).stands
 
-pub returns-in_default : goal.returns-in_default
-returns-in_default c =
+pub returns-in_err-pass : goal.returns-in_err-pass
+returns-in_err-pass c =
     let a = c.args in
     let m = held_memory a.channels.now a.places.now a.arena.now in
-    ten a.a m a.output.now a.list.now (failed a.a m c.pass-checked.ensures c.in_default.is)
+    let e = err_from_is_err_and c.from_residual.result c.from_residual.ensures.1 in
+    let r = refuses a.a.now m (sym c.pass.ensures ∙ c.in_err-pass.was) in
+    rw (e.1, e.2, r.1) (ten a.a.now m a.output.now a.list.now r.0)
 
 pub count-wanted-requires : goal.count-wanted-requires
 count-wanted-requires c =
     let a = c.args in
     let m = held_memory a.channels.now a.places.now a.arena.now in
-    start_asks a.a m (stands a.a m (here (goal.at.count-wanted-requires c).In-Sound)) a.a.active (omega arith)
+    start_asks a.a.now m (stands a.a.now m (here (goal.at.count-wanted-requires c).In_ok-pass)) a.a.now.active (omega arith)
 
 pub returns-then-output-wanted : goal.returns-then-output-wanted
 returns-then-output-wanted c =
     let a = c.args in
     let m = held_memory a.channels.now a.places.now a.arena.now in
-    let s = here (goal.at.returns-then-output-wanted (goal.at.returns-then-output-wanted c).Then-output-wanted).In-Sound in
-    let bytes = c.count-wanted.ensures.1 ∙ bytes_are a.a m (stands a.a m s) in
-    ap (λ (n : ℕ). drain_refuses (output_short n) a.a a.output.now a.list.now) bytes ∙ (thirteen a.a m a.output.now a.list.now s (rw bytes at c.if-output-wanted.true))
+    let s = here (goal.at.returns-then-output-wanted c).In_ok-pass in
+    let bytes = c.count-wanted.ensures.1 ∙ bytes_are a.a.now m (stands a.a.now m s) in
+    ap (λ (n : ℕ). drain_refuses (output_short n) a.a.now a.output.now a.list.now) bytes ∙ (thirteen a.a.now m a.output.now a.list.now s (rw bytes at c.if-output-wanted.true))
 
 pub returns-then-list-wanted : goal.returns-then-list-wanted
 returns-then-list-wanted c =
     let a = c.args in
     let m = held_memory a.channels.now a.places.now a.arena.now in
-    let s = here (goal.at.returns-then-list-wanted (goal.at.returns-then-list-wanted c).Then-list-wanted).In-Sound in
-    let bytes = c.count-wanted.ensures.1 ∙ bytes_are a.a m (stands a.a m s) in
-    let messages = c.count-wanted.ensures.0 ∙ messages_are a.a m (stands a.a m s) in
-    ap (λ (n : ℕ). drain_refuses (too_few_places n) a.a a.output.now a.list.now) messages ∙ (fourteen a.a m a.output.now a.list.now s (rw bytes at c.if-output-wanted.false) (rw messages at c.if-list-wanted.true))
+    let s = here (goal.at.returns-then-list-wanted c).In_ok-pass in
+    let bytes = c.count-wanted.ensures.1 ∙ bytes_are a.a.now m (stands a.a.now m s) in
+    let messages = c.count-wanted.ensures.0 ∙ messages_are a.a.now m (stands a.a.now m s) in
+    ap (λ (n : ℕ). drain_refuses (too_few_places n) a.a.now a.output.now a.list.now) messages ∙ (fourteen a.a.now m a.output.now a.list.now s (rw bytes at c.if-output-wanted.false) (rw messages at c.if-list-wanted.true))
 
 pub list_all-requires : goal.list_all-requires
 list_all-requires c =
     let a = c.args in
     let m = held_memory a.channels.now a.places.now a.arena.now in
-    let s = here (goal.at.list_all-requires (goal.at.list_all-requires c).After-list_all-arg-2-1).In-Sound in
-    let bytes = c.count-wanted.ensures.1 ∙ bytes_are a.a m (stands a.a m s) in
-    let messages = c.count-wanted.ensures.0 ∙ messages_are a.a m (stands a.a m s) in
-    (stands a.a m s, rw bytes at c.if-output-wanted.false, rw messages at c.if-list-wanted.false)
+    let s = here (goal.at.list_all-requires c).In_ok-pass in
+    let bytes = c.count-wanted.ensures.1 ∙ bytes_are a.a.now m (stands a.a.now m s) in
+    let messages = c.count-wanted.ensures.0 ∙ messages_are a.a.now m (stands a.a.now m s) in
+    (stands a.a.now m s, rw bytes at c.if-output-wanted.false, rw messages at c.if-list-wanted.false)
 
 pub returns : goal.returns
 returns c =
     let a = c.args in
     let m = held_memory a.channels.now a.places.now a.arena.now in
-    let s = here (goal.at.returns (goal.at.returns c).After-emptied).In-Sound in
-    let bytes = c.count-wanted.ensures.1 ∙ bytes_are a.a m (stands a.a m s) in
-    let messages = c.count-wanted.ensures.0 ∙ messages_are a.a m (stands a.a m s) in
+    let s = here (goal.at.returns c).In_ok-pass in
+    let bytes = c.count-wanted.ensures.1 ∙ bytes_are a.a.now m (stands a.a.now m s) in
+    let messages = c.count-wanted.ensures.0 ∙ messages_are a.a.now m (stands a.a.now m s) in
     let done = c.list_all.ensures in
-    rw (messages, c.emptied.ensures, done.0, done.1) (all_listed a.a m a.output.now a.list.now s (rw bytes at c.if-output-wanted.false) (rw messages at c.if-list-wanted.false))
+    rw (messages, c.emptied.ensures, done.0, done.1) (all_listed a.a.now m a.output.now a.list.now s (rw bytes at c.if-output-wanted.false) (rw messages at c.if-list-wanted.false))

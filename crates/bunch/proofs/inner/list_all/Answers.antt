@@ -12,7 +12,7 @@ pub loop-i-init : goal.loop-i-init
 unfolding sum_of
 loop-i-init c =
     let a = c.args in
-    (omega arith, refl, refl, refl, lists_none (state_of a.a.active (held_memory a.channels.now a.places.now a.arena.now)) a.output.now a.list.now)
+    (refl, refl, refl, lists_none (state_of a.a.active (held_memory a.channels.now a.places.now a.arena.now)) a.output.now a.list.now)
 
 -- where the loop goes on, there is room for the next message
 going : (c : In-loop-i) → let l = c.loop-i in let a = c.args in
@@ -20,7 +20,7 @@ going : (c : In-loop-i) → let l = c.loop-i in let a = c.args in
 going c =
     let l = c.loop-i in
     let a = c.args in
-    room a.a (held_memory a.channels.now a.places.now a.arena.now) c.requires.0 l.i (omega arith) (omega (arith, c.requires.1, l.invariant.2)) (omega (arith, c.requires.2, l.invariant.3)) l.invariant.1 l.invariant.4
+    room a.a (held_memory a.channels.now a.places.now a.arena.now) c.requires.0 l.i (omega arith) (omega (arith, c.requires.1, l.invariant.1)) (omega (arith, c.requires.2, l.invariant.2)) l.invariant.0 l.invariant.3
 
 pub list_one-requires : goal.list_one-requires
 list_one-requires c = let r = going (goal.at.list_one-requires c).In-loop-i in (r.few_bits, r.in_arena, r.in_output, r.in_list)
@@ -42,13 +42,13 @@ loop-i-preserved c =
     let h : l.i < a.a.active = omega (arith, c.loop-i-test) in
     let one = c.list_one in
     let next : l.i + 1 ≡ suc l.i = omega arith in
-    (omega (arith, h), rw next (omega (arith, start_next a.a m c.requires.0 l.i h, l.invariant.1, c.bytes_of-start.ensures)), search rules, search rules, lists_next a.a m c.requires.0 l.i h (l.i + 1) (l.at + c.shown_size-at.result) (l.n + c.shown_count-n.result) l.invariant.4 next (omega (arith, c.shown_size-at.ensures)) (omega (arith, c.shown_count-n.ensures)) (rw l.invariant.1 at one.ensures.output) one.ensures.list)
+    (rw next (omega (arith, start_next a.a m c.requires.0 l.i h, l.invariant.0, c.bytes_of-start.ensures)), search rules, search rules, lists_next a.a m c.requires.0 l.i h (l.i + 1) (l.at + c.shown_size-at.result) (l.n + c.shown_count-n.result) l.invariant.3 next (omega (arith, c.shown_size-at.ensures)) (omega (arith, c.shown_count-n.ensures)) (rw l.invariant.0 at one.ensures.output) one.ensures.list)
 
 pub returns : goal.returns
 returns c =
     let l = c.loop-i in
     let a = c.args in
-    lists_all a.a (held_memory a.channels.now a.places.now a.arena.now) c.requires.0 (omega arith) l.invariant.4
+    lists_all a.a (held_memory a.channels.now a.places.now a.arena.now) c.requires.0 (omega arith) l.invariant.3
 
 pub bytes_of-start-requires : goal.bytes_of-start-requires
 bytes_of-start-requires c = (going (goal.at.bytes_of-start-requires c).In-loop-i).few_bits
@@ -56,14 +56,8 @@ bytes_of-start-requires c = (going (goal.at.bytes_of-start-requires c).In-loop-i
 pub shown_size-at-requires : goal.shown_size-at-requires
 shown_size-at-requires c = (going (goal.at.shown_size-at-requires c).In-loop-i).few_bits
 
-pub overflow_add-i : goal.overflow_add-i
-overflow_add-i c = omega arith
-
-pub loop-i-smaller : goal.loop-i-smaller
-loop-i-smaller c = omega arith
-
 pub shape_of-output : goal.shape_of-output
-shape_of-output c = c.loop-i.invariant.2
+shape_of-output c = c.loop-i.invariant.1
 
 pub shape_of-list : goal.shape_of-list
-shape_of-list c = c.loop-i.invariant.3
+shape_of-list c = c.loop-i.invariant.2

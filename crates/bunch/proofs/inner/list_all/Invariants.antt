@@ -1,4 +1,3 @@
-use Prim.Native.Nat.{◌-◌, ◌≤◌}
 use mathlib.Core.Path.{◌≡◌}
 use lib.ListN.{length, take}
 use Rattle.bunch_held.specs.Memory.{held_memory, size_all, state_of}
@@ -7,8 +6,5 @@ use Rattle.bunch.proofs.inner.list_all.Given as goal
 
 abbrev pub invariant-loop-i : goal.invariant-loop-i
 invariant-loop-i l =
-    (l.i ≤ l.live) × (l.start ≡ size_all (take l.i l.places)) × (length l.output ≡ length l.initial.output) × (length l.list ≡ length l.initial.list)
+    (l.start ≡ size_all (take l.i l.places)) × (length l.output ≡ length l.initial.output) × (length l.list ≡ length l.initial.list)
     × Lists (state_of l.live (held_memory l.channels l.places l.arena)) l.i l.initial.output l.initial.list l.output l.list l.at l.n
-
-abbrev pub decreases-loop-i : goal.decreases-loop-i
-decreases-loop-i l = l.live - l.i

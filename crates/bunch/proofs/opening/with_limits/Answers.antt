@@ -3,18 +3,18 @@ use Prim.Native.Nat.{ℕ}
 use mathlib.Core.Path.{◌≡◌, sym, ◌∙◌}
 use mathlib.Core.Bool.{Bool, true, false}
 use Rattle.bitio_window.specs.Refusals.{unfit}
-use Rattle.bitio_window.specs.Parse.{value, refusal}
+use Rattle.std.proofs.Common.{Ok, Err}
 use Rattle.bunch_held.specs.Memory.{HeldMemory, held_memory}
 use Rattle.bunch_held.specs.Sound.{fit}
 use Rattle.bunch.specs.Opening.{holding_nothing, opened_accumulator}
 use Rattle.bunch.proofs.opening.with_limits.Goals as goal
 
 module _ (active buffered : ℕ) (m : HeldMemory) {r : Bool} (tests : r ≡ fit active buffered m) where
-  fits : r ≡ true → value (holding_nothing active buffered) ≡ opened_accumulator active buffered m
+  fits : r ≡ true → Ok (holding_nothing active buffered) ≡ opened_accumulator active buffered m
   unfolding opened_accumulator
   fits e = rw (sym tests ∙ e)
 
-  nine : r ≡ false → refusal unfit ≡ opened_accumulator active buffered m
+  nine : r ≡ false → Err unfit ≡ opened_accumulator active buffered m
   unfolding opened_accumulator
   nine e = rw (sym tests ∙ e)
 

@@ -1,71 +1,54 @@
--- What is left to test, from place i on, decides; each message fits, since the room for the bits that are left is there.
+-- What is left to test, from a place on, decides; each message fits, since the room for the bits that are left is there.
 use Prim.Native.Nat.{◌+◌}
 use mathlib.Core.Path.{◌≡◌, refl, sym, ◌∙◌}
 use native.Mathlib.Omega.{arith}
-use lib.ListN.{drop}
+use lib.ListN.{length, drop}
 use borrow.Author.Tests.{eq-eqb, ne_eqb}
+use lib.Seq.{take-length}
 use Rattle.bunch_held.specs.Memory.{sum_of}
 use Rattle.bunch_held.proofs.Sums.{turn}
 use Rattle.bunch_held.proofs.Passing.{too_many, one_unsound, one_sound, passed}
 use Rattle.bunch_held.proofs.inner.places_sound.Goals as goal
 
-pub loop-i-init : goal.loop-i-init
+pub loop-p-init : goal.loop-p-init
 unfolding sum_of
-loop-i-init c = (omega arith, omega arith, omega arith, refl, refl)
+loop-p-init c = (omega arith, omega arith, refl, refl)
 
 pub returns-then-left-bits : goal.returns-then-left-bits
 returns-then-left-bits c =
-    let l = c.loop-i in
+    let l = c.loop-p in
     let a = c.args in
-    rw (l.invariant.4 ∙ too_many a.places.now a.arena.now a.live l.i l.start l.left (omega arith) (omega arith) c.if-left-bits.true)
-
-pub place_sound-requires : goal.place_sound-requires
-place_sound-requires c = (omega arith, omega arith)
+    rw (l.invariant.3 ∙ too_many a.places.now a.arena.now l.p-index l.start l.left (omega arith) c.if-left-bits.true) refl
 
 pub returns-then-not-place_sound : goal.returns-then-not-place_sound
 returns-then-not-place_sound c =
-    let l = c.loop-i in
+    let l = c.loop-p in
     let a = c.args in
     let s = sym c.place_sound.ensures ∙ c.if-not-place_sound.true in
-    rw (l.invariant.4 ∙ one_unsound a.places.now a.arena.now a.live l.i l.start l.left (omega arith) (omega arith) c.if-left-bits.false s)
+    rw (l.invariant.3 ∙ one_unsound a.places.now a.arena.now l.p-index l.start l.left (omega arith) c.if-left-bits.false s) refl
 
-pub loop-i-preserved : goal.loop-i-preserved
-loop-i-preserved c =
-    let l = c.loop-i in
+pub loop-p-preserved : goal.loop-p-preserved
+loop-p-preserved c =
+    let l = c.loop-p in
     let a = c.args in
-    let t = turn a.places.now a.live l.i (omega arith) (omega arith) in
+    let t = turn a.places.now l.p-index (omega arith) in
     let e = c.bytes_of-start.ensures in
     let s = sym c.place_sound.ensures ∙ c.if-not-place_sound.false in
-    let on = one_sound a.places.now a.arena.now a.live l.i l.start l.left (omega arith) (omega arith) c.if-left-bits.false (l.i + 1) (l.start + c.bytes_of-start.result) (omega arith) (omega arith) s in
-    (omega arith, omega arith, omega arith, omega (arith, t.more), l.invariant.4 ∙ on)
+    let on = one_sound a.places.now a.arena.now l.p-index l.start l.left (omega arith) c.if-left-bits.false (l.p-index + 1) (l.start + c.bytes_of-start.result) (omega arith) (omega arith) s in
+    (omega arith, omega arith, omega (arith, t.more), l.invariant.3 ∙ on)
 
 pub returns-then-left-eq0 : goal.returns-then-left-eq0
 returns-then-left-eq0 c =
-    let l = c.loop-i in
+    let l = c.loop-p in
     let a = c.args in
-    let e : l.i ≡ a.live = omega arith in
-    let s = l.invariant.4 ∙ passed a.places.now (drop l.start a.arena.now) a.live l.i l.left e ∙ eq-eqb l.left 0 c.if-left-eq0.true in
-    rw (s, l.invariant.3, e)
+    let e : l.p-index ≡ length a.places.now = omega arith in
+    let s = l.invariant.3 ∙ passed a.places.now (drop l.start a.arena.now) l.p-index l.left e ∙ eq-eqb l.left 0 c.if-left-eq0.true in
+    rw (s, l.invariant.2, e, take-length) refl
 
-pub returns : goal.returns
-returns c =
-    let l = c.loop-i in
+pub returns-else-left-eq0 : goal.returns-else-left-eq0
+returns-else-left-eq0 c =
+    let l = c.loop-p in
     let a = c.args in
-    let e : l.i ≡ a.live = omega arith in
-    let s = l.invariant.4 ∙ passed a.places.now (drop l.start a.arena.now) a.live l.i l.left e ∙ ne_eqb l.left 0 c.if-left-eq0.false in
-    rw s
-
-pub offset_bounds-places-i : goal.offset_bounds-places-i
-offset_bounds-places-i c = omega arith
-
-pub bytes_of-start-requires : goal.bytes_of-start-requires
-bytes_of-start-requires c = omega arith
-
-pub overflow_add-start : goal.overflow_add-start
-overflow_add-start c = omega arith
-
-pub overflow_add-i : goal.overflow_add-i
-overflow_add-i c = omega arith
-
-pub loop-i-smaller : goal.loop-i-smaller
-loop-i-smaller c = omega arith
+    let e : l.p-index ≡ length a.places.now = omega arith in
+    let s = l.invariant.3 ∙ passed a.places.now (drop l.start a.arena.now) l.p-index l.left e ∙ ne_eqb l.left 0 c.if-left-eq0.false in
+    rw s refl

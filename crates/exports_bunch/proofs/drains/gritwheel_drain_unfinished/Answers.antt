@@ -14,22 +14,22 @@ count-wanted-requires c =
     let x = c.args in
     let a = accumulator_of x.max_active x.max_buffered_bits x.active x.total in
     let m = held_memory x.channels.now x.places.now x.arena.now in
-    let reply = c.drain_unfinished-reply in
-    start_asks a m (stands a m (was_sound reply.result _ _ a m x.output.now x.list.now reply.ensures c.in-Messages.is)) x.active (omega arith)
+    let answer = c.drain_unfinished-answer in
+    start_asks a m (stands a m (was_sound answer.result answer.new.a _ _ a m x.output.now x.list.now answer.ensures c.in-Ok.is)) x.active (omega arith)
 
-pub returns-in-Messages : goal.returns-in-Messages
-returns-in-Messages c =
+pub returns-in-Ok : goal.returns-in-Ok
+returns-in-Ok c =
     let x = c.args in
     let a = accumulator_of x.max_active x.max_buffered_bits x.active x.total in
     let m = held_memory x.channels.now x.places.now x.arena.now in
-    let reply = c.drain_unfinished-reply in
-    let s = stands a m (was_sound reply.result _ _ a m x.output.now x.list.now reply.ensures c.in-Messages.is) in
-    rw (c.count-wanted.ensures.1 ∙ bytes_are a m s) (told_lists reply.result _ _ reply.ensures (shown_byte_count a m) c.in-Messages.is)
+    let answer = c.drain_unfinished-answer in
+    let s = stands a m (was_sound answer.result answer.new.a _ _ a m x.output.now x.list.now answer.ensures c.in-Ok.is) in
+    rw (c.count-wanted.ensures.1 ∙ bytes_are a m s) (told_lists answer.result answer.new.a _ _ answer.ensures (shown_byte_count a m) c.in-Ok.is)
 
-pub returns-in-Refused : goal.returns-in-Refused
-returns-in-Refused c =
+pub returns-in-Err : goal.returns-in-Err
+returns-in-Err c =
     let x = c.args in
     let a = accumulator_of x.max_active x.max_buffered_bits x.active x.total in
     let m = held_memory x.channels.now x.places.now x.arena.now in
-    let reply = c.drain_unfinished-reply in
-    rw c.said-s.ensures (told_refuses reply.result _ _ reply.ensures (shown_byte_count a m) c.in-Refused.is)
+    let answer = c.drain_unfinished-answer in
+    rw c.said-s.ensures (told_refuses answer.result answer.new.a _ _ answer.ensures (shown_byte_count a m) c.in-Err.is)

@@ -1,6 +1,7 @@
 -- The words of what the call answers, and what it left in the lent memory.
+use borrow.Author.Rules.{rules}
 use Rattle.exports_bunch.proofs.Told.{told_taken}
 use Rattle.exports_bunch.proofs.handing.gritwheel_take_completed.Goals as goal
 
 pub returns : goal.returns
-returns c = let reply = c.take_completed-reply in told_taken reply.result reply.ensures c.of_taken-answer.ensures
+returns c = let answer = c.take_completed-answer in told_taken (search rules) (search rules) (search rules) answer.result answer.new.a answer.ensures.reply c.of_taken.ensures

@@ -4,10 +4,10 @@ use Rattle.bitio_window.specs.Refusals.{unfit}
 use Rattle.exports_bunch.specs.Opening.{limits_words}
 use Rattle.exports_bunch.proofs.opening.of_opened.Goals as goal
 
-pub returns-in-Value : goal.returns-in-Value
+pub returns-in-Ok : goal.returns-in-Ok
 unfolding limits_words
-returns-in-Value c = rw c.in-Value.is refl
+returns-in-Ok c = rw c.in-Ok.is refl
 
-pub returns-in-Refused : goal.returns-in-Refused
+pub returns-in-Err : goal.returns-in-Err
 unfolding limits_words unfit
-returns-in-Refused c = rw c.in-Refused.is refl
+returns-in-Err c = rw c.in-Err.is refl

@@ -1,16 +1,21 @@
 -- Each case, by what the match told.
-use mathlib.Core.Path.{refl}
+use mathlib.Core.Path.{◌≡◌, refl}
+use Rattle.std.proofs.Common.{Some, None}
 use Rattle.exports_bunch_words.specs.Handed.{handed_words}
 use Rattle.exports_bunch_words.proofs.taken.of_taken.Goals as goal
 
-pub returns-in-Message : goal.returns-in-Message
+pub returns-in-Ok-Some : goal.returns-in-Ok-Some
 unfolding handed_words
-returns-in-Message c = λ m o. rw (c.in-Message.is, c.put.ensures, c.of_header-h.ensures) refl
+returns-in-Ok-Some c = λ m o.
+    let p : c.in-Ok-Some.field-0 ≡ Some c.in-Ok-Some.message = rw c.in-Ok-Some.is at c.in-Ok-Some.field-0-is in
+    rw (c.in-Ok-Some.is, p, c.put.ensures, c.of_header-h.ensures) refl
 
-pub returns-in-Nothing : goal.returns-in-Nothing
+pub returns-in-Ok-None : goal.returns-in-Ok-None
 unfolding handed_words
-returns-in-Nothing c = λ m o. rw c.in-Nothing.is refl
+returns-in-Ok-None c = λ m o.
+    let p : c.in-Ok-None.field-0 ≡ None = rw c.in-Ok-None.is at c.in-Ok-None.field-0-is in
+    rw (c.in-Ok-None.is, p) refl
 
-pub returns-in-Refused : goal.returns-in-Refused
+pub returns-in-Err : goal.returns-in-Err
 unfolding handed_words
-returns-in-Refused c = λ m o. rw (c.in-Refused.is, c.said-s.ensures) refl
+returns-in-Err c = λ m o. rw (c.in-Err.is, c.said-s.ensures) refl

@@ -3,4 +3,4 @@ use mathlib.Core.Path.{refl}
 use Rattle.exports_packet.proofs.bunches.with_bunch.Goals as goal
 
 pub returns : goal.returns
-returns c = rw (c.put.ensures, c.without_bunch-x.ensures, c.said.ensures, c.of_header-h.ensures) refl
+returns c = rw (c.put.ensures, c.without_bunch-x.ensures, c.of_header-h.ensures) refl

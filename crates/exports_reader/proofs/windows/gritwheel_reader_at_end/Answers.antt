@@ -1,4 +1,4 @@
--- The words of what the call answers.
+-- Whether the window that was made is at its end.
 use mathlib.Core.Path.{◌∙◌}
 use Rattle.exports_reader.proofs.windows.gritwheel_reader_at_end.Goals as goal
 

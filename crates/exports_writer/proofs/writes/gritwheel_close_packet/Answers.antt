@@ -5,4 +5,4 @@ use Rattle.exports_writer.specs.Words.{written_words}
 use Rattle.exports_writer.proofs.writes.gritwheel_close_packet.Goals as goal
 
 pub returns : goal.returns
-returns c = let e = c.close_packet-written.ensures in (c.of_written-answer.ensures ∙ ap (λ (r : WriteReply). written_words r.answer) e, ap (λ (r : WriteReply). r.packet) e)
+returns c = let e = c.close_packet.ensures in (c.of_written.ensures ∙ ap (λ (r : WriteReply). written_words r.answer) e, ap (λ (r : WriteReply). r.packet) e)

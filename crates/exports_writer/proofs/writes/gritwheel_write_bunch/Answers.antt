@@ -7,5 +7,5 @@ use Rattle.exports_writer.proofs.writes.gritwheel_write_bunch.Goals as goal
 pub returns : goal.returns
 unfolding written_header
 returns c =
-    let e = rw c.reason.ensures at c.write_bunch-written.ensures in
-    (c.of_written-answer.ensures ∙ ap (λ (r : WriteReply). written_words r.answer) e, ap (λ (r : WriteReply). r.packet) e)
+    let e = rw c.reason.ensures at c.write_bunch.ensures in
+    (c.of_written.ensures ∙ ap (λ (r : WriteReply). written_words r.answer) e, ap (λ (r : WriteReply). r.packet) e)

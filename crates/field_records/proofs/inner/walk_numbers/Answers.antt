@@ -6,13 +6,13 @@ use Rattle.field_records.proofs.Kept.{walks_into, leaves_ready}
 use Rattle.field_records.proofs.inner.walk_numbers.Goals as goal
 
 pub slice_bounds-walk-end-2 : goal.slice_bounds-walk-end-2
-slice_bounds-walk-end-2 c = sym (length-take-le c.least-n.result c.args.numbers.now (omega (arith, c.least-n.ensures)))
+slice_bounds-walk-end-2 c = sym (length-take-le c.min-n.result c.args.numbers.now (omega (arith, c.min-n.ensures)))
 
 pub returns : goal.returns
 returns c =
     let a = c.args in
-    let e = c.least-n.ensures in
+    let e = c.min-n.ensures in
     let h = c.walk.ensures in (
-      walks_into a.room a.numbers.now a.stream a.bytes.now a.w c.walk.result _ e h,
-      leaves_ready a.room a.numbers.now a.stream a.bytes.now a.w c.walk.result _ e h,
+      walks_into a.room a.numbers.now a.stream a.bytes.now a.w.now c.walk.result c.walk.new.w _ e h,
+      leaves_ready a.room a.numbers.now a.stream a.bytes.now a.w.now c.walk.result c.walk.new.w _ e h,
     )

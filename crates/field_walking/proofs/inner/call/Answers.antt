@@ -1,19 +1,23 @@
 -- Each way out is one law of Records, at what the handle's read gave.
 use mathlib.Core.Path.{sym, ◌∙◌}
-use Rattle.field_walking.proofs.Records.{told_value, told_refusal, call_refused, call_abandons, call_goes_on}
+use Rattle.field_walking.proofs.Handed.{handed_on}
+use Rattle.field_walking.proofs.Records.{call_refused, call_abandons, call_goes_on}
 use Rattle.field_walking.proofs.inner.call.Goals as goal
 
-pub returns-then-next-position-lt8 : goal.returns-then-next-position-lt8
-returns-then-next-position-lt8 c =
+pub returns-in_err-handle : goal.returns-in_err-handle
+returns-in_err-handle c =
     let a = c.args in
-    (sym (call_abandons a.bytes.now a.w a.max (told_value c.serialized-read.result c.serialized-read.ensures.0 c.in-Value.is) c.if-next-position-lt8.true), c.serialized-read.ensures.1)
+    let e = c.in_err-handle.ensures in
+    rw (handed_on c.from_residual.result c.in_err-handle.field-0.0 c.serialized.new.w c.from_residual.ensures.1) (sym (call_refused a.bytes.now a.w.now a.max (sym e.0)), e.1)
 
-pub returns-in-Refused : goal.returns-in-Refused
-returns-in-Refused c =
+pub returns-then-left-lt8 : goal.returns-then-left-lt8
+returns-then-left-lt8 c =
     let a = c.args in
-    (sym (call_refused a.bytes.now a.w a.max (told_refusal c.serialized-read.result c.serialized-read.ensures.0 c.in-Refused.is)), c.serialized-read.ensures.1)
+    let e = c.in_ok-handle.ensures in
+    (sym (call_abandons a.bytes.now a.w.now a.max (sym e.0) (rw c.left.ensures at c.if-left-lt8.true)), e.1)
 
-pub returns-else-next-position-lt8 : goal.returns-else-next-position-lt8
-returns-else-next-position-lt8 c =
+pub returns : goal.returns
+returns c =
     let a = c.args in
-    (c.counted.ensures.0 ∙ sym (call_goes_on a.bytes.now a.w a.max (told_value c.serialized-read.result c.serialized-read.ensures.0 c.in-Value.is) c.if-next-position-lt8.false), c.counted.ensures.1)
+    let e = c.in_ok-handle.ensures in
+    (c.counted.ensures.0 ∙ sym (call_goes_on a.bytes.now a.w.now a.max (sym e.0) (rw c.left.ensures at c.if-left-lt8.false)), c.counted.ensures.1)

@@ -5,11 +5,11 @@ use Rattle.field_walking.specs.Records.{call}
 use Rattle.field_walking.proofs.Records.{calls_end, calls_go_on}
 use Rattle.field_walking.proofs.inner.class_net_cache.Goals as goal
 
-pub returns-then-w-position : goal.returns-then-w-position
-returns-then-w-position c =
-    (sym (calls_end c.args.bytes.now c.args.w c.args.count (omega (arith, c.if-w-position.true))), c.requires)
+pub returns-then-left-eq0 : goal.returns-then-left-eq0
+returns-then-left-eq0 c =
+    (sym (calls_end c.args.bytes.now c.args.w.now c.args.count (omega (arith, c.left.ensures, c.if-left-eq0.true))), c.requires)
 
 pub returns : goal.returns
 returns c =
     let a = c.args in
-    (c.call.ensures.0 ∙ ap (λ m. call m a.bytes.now a.w) c.at_least_two.ensures.0 ∙ sym (calls_go_on a.bytes.now a.w a.count (omega (arith, c.if-w-position.false))), c.call.ensures.1)
+    (c.call.ensures.0 ∙ ap (λ m. call m a.bytes.now a.w.now) c.max.ensures ∙ sym (calls_go_on a.bytes.now a.w.now a.count (omega (arith, c.left.ensures, c.if-left-eq0.false))), c.call.ensures.1)

@@ -1,25 +1,26 @@
 -- Each way out is one law of Records, at what the count's read gave.
 use mathlib.Core.Path.{sym}
 use Rattle.bitio_window.proofs.Steps.{sound_past}
-use Rattle.field_walking.proofs.Records.{told_value, told_refusal, counted_refused, overlong, whole}
+use Rattle.field_walking.proofs.Handed.{handed_on}
+use Rattle.field_walking.proofs.Records.{counted_refused, overlong, whole}
 use Rattle.field_walking.proofs.inner.counted.Goals as goal
 
-pub returns-then-next-position : goal.returns-then-next-position
-returns-then-next-position c =
+pub returns-in_err-bit_count : goal.returns-in_err-bit_count
+returns-in_err-bit_count c =
     let a = c.args in
-    let n = c.packed-read in
-    (sym (overlong a.bytes.now a.w a.handle (told_value n.result n.ensures.0 c.in-Value.is) c.if-next-position.true), n.ensures.1)
+    let e = c.in_err-bit_count.ensures in
+    rw (handed_on c.from_residual.result c.in_err-bit_count.field-0.0 c.packed.new.w c.from_residual.ensures.1) (sym (counted_refused a.bytes.now a.w.now a.handle (sym e.0)), e.1)
 
-pub returns-in-Refused : goal.returns-in-Refused
-returns-in-Refused c =
+pub returns-then-left-bits : goal.returns-then-left-bits
+returns-then-left-bits c =
     let a = c.args in
-    let n = c.packed-read in
-    (sym (counted_refused a.bytes.now a.w a.handle (told_refusal n.result n.ensures.0 c.in-Refused.is)), n.ensures.1)
+    let e = c.in_ok-bit_count.ensures in
+    (sym (overlong a.bytes.now a.w.now a.handle (sym e.0) (rw (c.left.ensures, c.from-bits.ensures) at c.if-left-bits.true)), e.1)
 
-pub returns-else-next-position : goal.returns-else-next-position
-returns-else-next-position c =
+pub returns : goal.returns
+returns c =
     let a = c.args in
-    let n = c.packed-read in
-    let h = c.if-next-position.false in
-    rw (c.advance.ensures, c.packet_bit.ensures)
-    (sym (whole a.bytes.now a.w a.handle (told_value n.result n.ensures.0 c.in-Value.is) h), sound_past a.bytes.now n.result.next c.in-Value.n n.ensures.1 h)
+    let e = c.in_ok-bit_count.ensures in
+    let h = rw (c.left.ensures, c.from-bits.ensures) at c.if-left-bits.false in
+    rw (c.advance.ensures, c.packet_bit.ensures, c.from-bits.ensures)
+    (sym (whole a.bytes.now a.w.now a.handle (sym e.0) h), sound_past a.bytes.now c.packed.new.w c.in_ok-bit_count.bit_count e.1 h)

@@ -1,55 +1,40 @@
 -- `Telling` holds at each turn: what is written and what is still to come make up the packet's text.
-use native.Mathlib.Omega.{arith}
+use Rattle.std.proofs.Common.{refl, ap, ◌∙◌, rules}
 use mir.Syntax.{w32}
 use mir.ValLaws.{to_z-of_z}
-use Rattle.log_telling.proofs.Telling.{begins, turned, nearer, few_sums, told}
+use Rattle.packet_reading.specs.declared.Bunch.{Bunch}
+use Rattle.packet_reading.specs.Answers.{bunch_outcome}
+use Rattle.log_telling.specs.Listed.{goes_on}
+use Rattle.log_telling.proofs.Telling.{begins, turned, nearer, few_sums, told, line_text, stopped, no_text}
 use Rattle.log_telling.proofs.inner.tell.Goals as goal
 
-pub to_word-word-requires : goal.to_word-word-requires
-to_word-word-requires c = tt
-
-pub loop-more-init : goal.loop-more-init
-loop-more-init c =
-    let a = c.args in
+pub loop-header-init : goal.loop-header-init
+loop-header-init c =
     let p = c.requires in
-    (p.0, begins _ _ _ _ _ _ p.1 p.2.left)
+    (p.0, refl, search rules, begins _ _ _ _ _ _ p.1 p.2.left)
 
-pub read-read-requires : goal.read-read-requires
-read-read-requires c = let i = c.loop-more.invariant in (i.0, c.requires.1, i.1.place)
+pub raise-requires : goal.raise-requires
+raise-requires c = few_sums _ _ _ _ _ _ c.loop-header.invariant.3 c.requires.1
 
-pub show-shown-requires : goal.show-shown-requires
-show-shown-requires c = let i = c.loop-more.invariant in omega (arith, i.1.room)
-
-pub raise-sums-requires : goal.raise-sums-requires
-raise-sums-requires c = few_sums _ _ _ _ _ _ c.loop-more.invariant.1 c.loop-more-test.true c.requires.1
-
-pub loop-more-smaller : goal.loop-more-smaller
-loop-more-smaller c =
-    let a = c.args in
-    let is = c.to_word-word.ensures in
+pub loop-header-smaller : goal.loop-header-smaller
+loop-header-smaller c =
+    let i = c.loop-header.invariant in
     let r = c.read-read in
-    let i = c.loop-more.invariant in
-    let on = c.loop-more-test.true in
-    let w = c.to_word-word.result in
-    nearer _ _ _ _ _ _ _ _ _ i.1 on w is r.result _ r.ensures.0 c.show-shown.ensures.1
+    nearer _ _ _ _ _ _ _ i.1 _ i.3 _ c.to_word-word.ensures r.result r.new.at r.new.reader _ r.ensures.reply.0 (ap (λ (b : Bunch). goes_on (bunch_outcome b)) c.in-Read.is)
 
-pub loop-more-preserved : goal.loop-more-preserved
-loop-more-preserved c =
-    let a = c.args in
-    let is = c.to_word-word.ensures in
+pub loop-header-preserved : goal.loop-header-preserved
+loop-header-preserved c =
+    let i = c.loop-header.invariant in
     let r = c.read-read in
-    let i = c.loop-more.invariant in
-    let on = c.loop-more-test.true in
-    let w = c.to_word-word.result in
-    (r.ensures.1, turned _ _ _ _ _ _ _ _ _ i.1 on w is r.result _ r.ensures.0 c.show-shown.ensures.0 c.raise-sums.ensures c.show-shown.ensures.1)
+    let line = rw c.line_of.ensures at c.bunch_line-end.ensures in
+    let t = turned _ _ _ _ _ _ _ i.1 _ i.3 _ c.to_word-word.ensures r.result r.new.at r.new.reader _ r.ensures.reply.0 (rw (line_text r.result.answer _ _ c.in-Read.is) at line) c.raise.ensures in
+    (r.ensures.reply.2, r.ensures.reply.1 ∙ i.1, search rules, rw c.in-Read.is at t)
 
-pub close-requires : goal.close-requires
-close-requires c = let i = c.loop-more.invariant in omega (arith, i.1.room)
-
-pub returns : goal.returns
-returns c =
-    let a = c.args in
-    let e = to_z-of_z w32 a.id c.ranges.id in
-    let l = c.loop-more in
-    let t = told _ _ _ _ _ _ l.invariant.1 c.loop-more-test.false c.close.ensures l.invariant.0 in
-    rw e at t
+pub returns-in-End-clause-told : goal.returns-in-End-clause-told
+returns-in-End-clause-told c =
+    let i = c.loop-header.invariant in
+    let r = c.read-read in
+    let s = stopped r.result.answer c.in-End.is in
+    let t = turned _ _ _ _ _ _ _ i.1 _ i.3 _ c.to_word-word.ensures r.result r.new.at r.new.reader _ r.ensures.reply.0 (no_text c.loop-header.out c.loop-header.end s.0) c.raise.ensures in
+    let all = told _ _ _ _ _ _ r.new.reader _ (rw s.1 at t) c.close.ensures r.ensures.reply.2 in
+    (rw (to_z-of_z w32 c.args.id c.ranges.id) at all, r.ensures.reply.1 ∙ i.1)

@@ -1,4 +1,4 @@
--- Sums of bytes, each below 256; the word of the id is made signed.
+-- Bytes in a row are a sum of them, the first the highest; the word of the id is made signed.
 use mathlib.Core.Path.{ap, ◌∙◌}
 use native.Mathlib.Omega.{arith}
 use mir.Syntax.{w32}

@@ -1,21 +1,9 @@
--- Each way out is one law of Entries, at the tests that led there.
+-- A whole record, by the law of Entries.
 use native.Mathlib.Omega.{arith}
 use mir.Syntax.{w32}
 use mir.ValLaws.{to_z-of_z}
-use Rattle.packet_log.proofs.Entries.{at_end, cut_at, whole_at}
+use Rattle.packet_log.proofs.Entries.{whole_at}
 use Rattle.packet_log.proofs.reading.record_at.Goals as goal
-
-pub returns-then-at-size : goal.returns-then-at-size
-returns-then-at-size c = at_end c.args.bytes.now c.args.at c.if-at-size.true
-
-pub returns-then-size-at : goal.returns-then-size-at
-returns-then-size-at c = cut_at c.args.bytes.now c.args.at c.if-at-size.false (omega arith)
-
-pub returns-then-size-at-lt6 : goal.returns-then-size-at-lt6
-returns-then-size-at-lt6 c = cut_at c.args.bytes.now c.args.at c.if-at-size.false (omega arith)
-
-pub returns-then-size-at-2 : goal.returns-then-size-at-2
-returns-then-size-at-2 c = cut_at c.args.bytes.now c.args.at c.if-at-size.false (omega arith)
 
 pub returns : goal.returns
 returns c =

@@ -12,20 +12,17 @@ all_put : (d : List ℕ) (at i : ℕ) (s : List ℕ) → i ≡ length s → past
 all_put d at i s e = rw (e, take-length s) (append_assoc (take at d) s (drop (at + length s) d))
 
 pub loop-i-init : goal.loop-i-init
-loop-i-init c = (omega arith, refl, paste-zero c.args.to.now c.args.at c.args.from.now)
+loop-i-init c = (refl, paste-zero c.args.to.now c.args.at c.args.from.now)
 
 pub loop-i-preserved : goal.loop-i-preserved
 loop-i-preserved c =
     let l = c.loop-i in
     let a = c.args in
-    (omega arith, simp length-set l.invariant.1, ap (λ (t : List ℕ). set t (a.at + l.i) (get_or a.from.now l.i 0)) l.invariant.2 ∙ rw add-one (paste-suc a.to.now a.at a.from.now l.i 0 (omega arith) (omega arith)))
+    (simp length-set l.invariant.0, ap (λ (t : List ℕ). set t (a.at + l.i) (get_or a.from.now l.i 0)) l.invariant.1 ∙ rw add-one (paste-suc a.to.now a.at a.from.now l.i 0 (omega arith) (omega arith)))
 
 pub returns : goal.returns
 returns c =
     let l = c.loop-i in
     let a = c.args in
     let e : l.i ≡ length a.from.now = omega arith in
-    l.invariant.2 ∙ all_put a.to.now a.at l.i a.from.now e
-
-pub shape_of-to : goal.shape_of-to
-shape_of-to c = c.loop-i.invariant.1
+    l.invariant.1 ∙ all_put a.to.now a.at l.i a.from.now e

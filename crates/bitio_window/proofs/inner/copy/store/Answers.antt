@@ -17,15 +17,14 @@ unfolding stored
 end l i word m e = rw e
 
 pub loop-j-init : goal.loop-j-init
-loop-j-init c = (omega arith, refl, rw (add-zero, sub-zero) refl)
+loop-j-init c = (refl, rw (add-zero, sub-zero) refl)
 
 pub loop-j-preserved : goal.loop-j-preserved
 loop-j-preserved c =
     let a = c.args in
     let l = c.loop-j in (
-      omega arith,
-      simp length-set l.invariant.1,
-      l.invariant.2 ∙ step l.target (a.at + l.j) l.rest (a.m - l.j) (a.m - (l.j + 1)) (omega arith)
+      simp length-set l.invariant.0,
+      l.invariant.1 ∙ step l.target (a.at + l.j) l.rest (a.m - l.j) (a.m - (l.j + 1)) (omega arith)
           ∙ ap (λ (i : ℕ). stored (set l.target (a.at + l.j) (l.rest % 256)) i (l.rest / 256) (a.m - (l.j + 1))) (add_assoc a.at l.j 1),
     )
 
@@ -33,4 +32,4 @@ pub returns : goal.returns
 returns c =
     let a = c.args in
     let l = c.loop-j in
-    sym (l.invariant.2 ∙ end l.target (a.at + l.j) l.rest (a.m - l.j) (omega arith))
+    sym (l.invariant.1 ∙ end l.target (a.at + l.j) l.rest (a.m - l.j) (omega arith))

@@ -1,12 +1,9 @@
 use mathlib.Core.Path.{◌≡◌}
-use Prim.Native.Nat.{◌+◌, ◌-◌, ◌≤◌}
+use Prim.Native.Nat.{◌+◌, ◌-◌}
 use lib.ListN.{length}
 use Rattle.bitio_bits.specs.Words.{stored}
 use Rattle.bitio_window.proofs.inner.copy.store.Given as goal
 
 abbrev pub invariant-loop-j : goal.invariant-loop-j
 invariant-loop-j l =
-    (l.j ≤ l.m) × (length l.target ≡ length l.initial.target) × (stored l.initial.target l.at l.word l.m ≡ stored l.target (l.at + l.j) l.rest (l.m - l.j))
-
-abbrev pub decreases-loop-j : goal.decreases-loop-j
-decreases-loop-j l = l.m - l.j
+    (length l.target ≡ length l.initial.target) × (stored l.initial.target l.at l.word l.m ≡ stored l.target (l.at + l.j) l.rest (l.m - l.j))

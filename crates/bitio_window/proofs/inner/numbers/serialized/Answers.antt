@@ -1,5 +1,5 @@
 -- The four ways out are the laws of Serialized, at the low bits of the peeked word.
-use mathlib.Core.Path.{◌≡◌, ap, ap₂, sym, ◌∙◌}
+use mathlib.Core.Path.{◌≡◌, refl, ap, ap₂, sym, ◌∙◌}
 use mathlib.Core.Bool.{cond}
 use Prim.Native.Nat.{ℕ, zero, suc, ◌+◌, ◌*◌, ◌/◌, ◌%◌, ◌^◌, ◌<◌}
 use native.Mathlib.Nat.{mul-zero, mul-one, mod-lt, pow-succ'}
@@ -10,22 +10,24 @@ use borrow.Author.Tests.{leb-true, leb-false}
 use Rattle.bitio_bits.specs.Bits.{bits_at}
 use Rattle.bitio_bits.proofs.Numbers.{bits_append}
 use Rattle.bitio_bits.proofs.Loads.{peeked_low}
+use Rattle.bitio_window.specs.declared.Window.{Window}
+use Rattle.bitio_window.specs.Parse.{advanced}
 use Rattle.bitio_window.specs.Places.{packet_bit}
-use Rattle.bitio_window.proofs.Steps.{sound_past}
+use Rattle.bitio_window.proofs.Handed.{handed_on}
+use Rattle.bitio_window.proofs.Steps.{advanced_past, sound_past}
 use Rattle.bitio_window.proofs.Serialized.{cut, without_top, cut_top, with_top}
 use Rattle.bitio_window.proofs.inner.numbers.serialized.Goals.{After-low-value, After-only_if}
 use Rattle.bitio_window.proofs.inner.numbers.serialized.Goals as goal
 
-pub returns-then-left-n : goal.returns-then-left-n
-returns-then-left-n c = (
-  c.short_u32.ensures.0
-      ∙ sym (cut c.args.bytes.now c.args.w c.args.max (sym c.floor_log2-width.ensures.0) c.if-left-n.true),
-  rw c.short_u32.ensures.1 c.requires.0,
-)
+pub returns-in_err-need : goal.returns-in_err-need
+returns-in_err-need c =
+    let s = c.in_err-need.ensures.short in
+    rw (handed_on c.from_residual.result c.in_err-need.field-0.0 c.args.w.now c.from_residual.ensures.1, s.1)
+    (sym (cut c.args.bytes.now c.args.w.now c.args.max (sym c.floor_log2-width.ensures.0) s.0), c.requires.0)
 
 -- the low bits of the peeked word are the next ones
-the_value : (c : After-low-value) → bits_at c.args.bytes.now (packet_bit c.args.w).0 c.floor_log2-width.result ≡ c.low-value.result
-the_value c = sym (peeked_low c.args.bytes.now (packet_bit c.args.w).0 c.floor_log2-width.result (rw c.packet_bit.ensures at c.peek-word.ensures) (omega (arith, c.floor_log2-width.ensures.1))) ∙ sym c.low-value.ensures.0
+the_value : (c : After-low-value) → bits_at c.args.bytes.now (packet_bit c.args.w.now).0 c.floor_log2-width.result ≡ c.low-value.result
+the_value c = sym (peeked_low c.args.bytes.now (packet_bit c.args.w.now).0 c.floor_log2-width.result (rw c.packet_bit.ensures at c.peek-word.ensures) (omega (arith, c.floor_log2-width.ensures.1))) ∙ sym c.low-value.ensures.0
 
 pub is_whole-requires : goal.is_whole-requires
 is_whole-requires c =
@@ -39,23 +41,25 @@ returns-then-is_whole c =
     let n = c.floor_log2-width in
     let p = c.power-top in
     let d = c.args.bytes.now in
+    let there = c.in_ok-need.ensures.there in
     let f = leb-true c.args.max (c.low-value.result + p.result) (sym c.is_whole.ensures ∙ c.if-is_whole.true) in
     rw c.advance.ensures (
-      sym (without_top d c.args.w c.args.max (sym n.ensures.0) (the_value (goal.at.returns-then-is_whole c).After-low-value) c.if-left-n.false (omega (arith, p.ensures.0, f))),
-      sound_past d c.args.w n.result c.requires.0 c.if-left-n.false,
+      sym (without_top d c.args.w.now c.args.max (sym n.ensures.0) (the_value (goal.at.returns-then-is_whole c).After-low-value) there (omega (arith, p.ensures.0, f))),
+      sound_past d c.args.w.now n.result c.requires.0 there,
     )
 
-pub returns-then-left-n-2 : goal.returns-then-left-n-2
-returns-then-left-n-2 c =
+pub returns-in_err-need-2 : goal.returns-in_err-need-2
+returns-in_err-need-2 c =
     let n = c.floor_log2-width in
     let p = c.power-top in
     let d = c.args.bytes.now in
-    let e = c.advance-then-left-n-2.ensures in
-    let h = c.if-left-n.false in
-    let f = leb-false c.args.max (c.low-value.result + p.result) (sym c.is_whole.ensures ∙ c.if-is_whole.false) in (
-      rw e at c.short_u32-then-left-n-2.ensures.0
-          ∙ sym (cut_top d c.args.w c.args.max (sym n.ensures.0) (the_value (goal.at.returns-then-left-n-2 c).After-low-value) h (omega (arith, p.ensures.0, f)) c.if-left-n-2.true),
-      rw (c.short_u32-then-left-n-2.ensures.1, e) (sound_past d c.args.w n.result c.requires.0 h),
+    let there = c.in_ok-need.ensures.there in
+    let s = c.in_err-need-2.ensures.short in
+    let short = rw c.advance.ensures at s.0 in
+    let f = leb-false c.args.max (c.low-value.result + p.result) (sym c.is_whole.ensures ∙ c.if-is_whole.false) in
+    rw (handed_on c.from_residual-in_err-need-2.result c.in_err-need-2.field-0.0 c.advance.new.self c.from_residual-in_err-need-2.ensures.1, s.1, c.advance.ensures) (
+      sym (cut_top d c.args.w.now c.args.max (sym n.ensures.0) (the_value (goal.at.returns-in_err-need-2 c).After-low-value) there (omega (arith, p.ensures.0, f)) (omega (arith, short))),
+      sound_past d c.args.w.now n.result c.requires.0 there,
     )
 
 -- the bit above them counts 2^n, or nothing
@@ -67,11 +71,11 @@ counts (suc (suc b)) t h = absurd (omega (arith, h))
 twice : (n : ℕ) → 2 ^ (n + 1) ≡ 2 * 2 ^ n
 twice n = rw add-one (pow-succ' 2 n)
 
-the_whole : (c : After-only_if) → bits_at c.args.bytes.now (packet_bit c.args.w).0 c.floor_log2-width.result ≡ c.low-value.result
-    → bits_at c.args.bytes.now (packet_bit c.args.w).0 (c.floor_log2-width.result + 1) ≡ c.low-value.result + c.only_if.result
+the_whole : (c : After-only_if) → bits_at c.args.bytes.now (packet_bit c.args.w.now).0 c.floor_log2-width.result ≡ c.low-value.result
+    → bits_at c.args.bytes.now (packet_bit c.args.w.now).0 (c.floor_log2-width.result + 1) ≡ c.low-value.result + c.only_if.result
 the_whole c low =
     let d = c.args.bytes.now in
-    let k : ℕ = (packet_bit c.args.w).0 in
+    let k : ℕ = (packet_bit c.args.w.now).0 in
     let n = c.floor_log2-width in
     let x : ℕ = c.peek-word.result in
     let word = rw c.packet_bit.ensures at c.peek-word.ensures in
@@ -84,13 +88,17 @@ small c = omega (arith, c.low-value.ensures.2, c.only_if.ensures.1, c.power-top.
 
 pub returns : goal.returns
 returns c =
+    let g = goal.at.returns c in
     let n = c.floor_log2-width in
     let p = c.power-top in
     let d = c.args.bytes.now in
+    let there = c.in_ok-need.ensures.there in
+    let more = rw c.advance.ensures at c.in_ok-need-2.ensures.there in
     let f = leb-false c.args.max (c.low-value.result + p.result) (sym c.is_whole.ensures ∙ c.if-is_whole.false) in
-    rw (c.advance-2.ensures, sym (the_whole (goal.at.returns c).After-only_if (the_value (goal.at.returns c).After-low-value))) (
-      sym (with_top d c.args.w c.args.max (sym n.ensures.0) (the_value (goal.at.returns c).After-low-value) c.if-left-n.false (omega (arith, p.ensures.0, f)) c.if-left-n-2.false),
-      sound_past d c.args.w (n.result + 1) c.requires.0 c.if-left-n-2.false,
+    let past = c.advance-2.ensures ∙ ap (λ (w : Window). advanced w 1) c.advance.ensures ∙ advanced_past c.args.w.now n.result 1 (n.result + 1) refl in
+    rw (past, sym (the_whole g.After-only_if (the_value g.After-low-value))) (
+      sym (with_top d c.args.w.now c.args.max (sym n.ensures.0) (the_value g.After-low-value) there (omega (arith, p.ensures.0, f)) (omega (arith, more, there))),
+      sound_past d c.args.w.now (n.result + 1) c.requires.0 (omega (arith, more, there)),
     )
 
 pub overflow_add-result : goal.overflow_add-result

@@ -6,6 +6,3 @@ use Rattle.bitio_window.proofs.inner.words.eight_padded.Given as goal
 
 abbrev pub invariant-loop-i : goal.invariant-loop-i
 invariant-loop-i l = (l.i ≤ length l.bytes) × (l.word ≡ from l.bytes l.i) × (l.i < l.at → length l.bytes ≡ l.i)
-
-abbrev pub decreases-loop-i : goal.decreases-loop-i
-decreases-loop-i l = l.i

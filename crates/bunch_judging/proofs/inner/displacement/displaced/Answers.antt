@@ -1,6 +1,7 @@
 -- Each way through is one clause of the definition.
 use mathlib.Core.Path.{refl}
 use mathlib.Core.List.{List}
+use mathlib.Core.Logic.{inl, inr}
 use Prim.Native.Nat.{ℕ}
 use borrow.Author.Tests.{eq-eqb, ne_eqb}
 use Rattle.tables.specs.Tables.{Found}
@@ -49,20 +50,11 @@ returns-else-header c bytes payload = rw (c.in-Fails.is, c.if-header.false) (c.d
 pub returns-in-Joins : goal.returns-in-Joins
 unfolding displaced
 returns-in-Joins c bytes payload =
-    rw (
-      c.in-Joins.is,
-      ← (c.replaced_by-replaced.ensures c.args.words bytes),
-    )
-    (c.displaced_by-in-Joins.ensures bytes)
-
-pub returns-in-Finishes : goal.returns-in-Finishes
-unfolding displaced
-returns-in-Finishes c bytes payload =
-    rw (
-      c.in-Finishes.is,
-      ← (c.replaced_by-replaced.ensures c.args.words bytes),
-    )
-    (c.displaced_by-in-Finishes.ensures bytes)
+    let shown = c.displaced_by-in-Joins.ensures bytes in
+    elim c.in-Joins.is [
+      | inl joins ↦ rw (joins, ← (c.replaced_by-replaced.ensures c.args.words bytes)) shown
+      | inr finishes ↦ rw (finishes, ← (c.replaced_by-replaced.ensures c.args.words bytes)) shown
+    ]
 
 pub returns-else-bits-eq0 : goal.returns-else-bits-eq0
 returns-else-bits-eq0 c bytes payload =

@@ -1,9 +1,6 @@
--- Both ways of the match are the definition's clauses.
+-- The message in its place.
 use mathlib.Core.Path.{refl}
 use Rattle.bunch_judging.proofs.inner.displacement.displaced_by.Goals as goal
 
-pub returns-in-Nothing : goal.returns-in-Nothing
-returns-in-Nothing c bytes = rw c.in-Nothing.is refl
-
-pub returns-in-Message : goal.returns-in-Message
-returns-in-Message c bytes = rw (c.in-Message.is, c.message.ensures bytes) refl
+pub returns-in-Some : goal.returns-in-Some
+returns-in-Some c bytes = rw (c.in-Some.is, c.message.ensures bytes) refl

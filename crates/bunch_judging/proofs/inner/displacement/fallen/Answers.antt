@@ -6,7 +6,7 @@ returns c bytes payload =
     let words = c.args.words in
     rw (
       ← (c.after_test-h.ensures words bytes),
-      ← c.or_overlapping.ensures,
+      ← c.unwrap_or-kind.ensures,
       ← (c.joined_by-joins.ensures.0 words bytes),
     )
     (c.joined.ensures bytes payload)

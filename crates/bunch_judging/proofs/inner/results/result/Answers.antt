@@ -2,9 +2,10 @@
 use mathlib.Core.Path.{◌≡◌}
 use mathlib.Core.Bool.{Bool, true, false}
 use mathlib.Core.List.{List}
-use Prim.Native.Nat.{ℕ, ◌+◌, ◌^◌, ◌≤◌, ◌<◌}
+use mathlib.Core.Logic.{inl, inr}
+use Prim.Native.Nat.{ℕ, ◌+◌, ◌≤◌}
 use native.Mathlib.Omega.{arith}
-use lib.Dec.{eqb, lit<}
+use lib.Dec.{eqb}
 use mir.Val.{bool_byte}
 use Rattle.tables.specs.Tables.{Found}
 use Rattle.bunch_judging.specs.declared.Fate.{Fate}
@@ -16,10 +17,6 @@ use Rattle.bunch_judging.specs.Standings.{held_of}
 use Rattle.bunch_judging.proofs.Displacing.{held_bits, at_most, displaced_bits_are}
 use Rattle.bunch_judging.proofs.inner.results.result.Goals.{After-after_test-h}
 use Rattle.bunch_judging.proofs.inner.results.result.Goals as goal
-
-one_more : (b : Bool) → bool_byte b + 1 < 2 ^ 32
-one_more true = lit< tt
-one_more false = lit< tt
 
 module _ (c : After-after_test-h) where
   small : c.displaced_bits-gone.result ≤ 536870912 + 16383
@@ -46,9 +43,6 @@ overflow_add-gone c = omega (arith, small (goal.at.overflow_add-gone c).After-af
 pub overflow_add-gone-in-Fails : goal.overflow_add-gone-in-Fails
 overflow_add-gone-in-Fails c = omega (arith, small (goal.at.overflow_add-gone-in-Fails c).After-after_test-h)
 
-pub overflow_add-errors : goal.overflow_add-errors
-overflow_add-errors c = record { fits = one_more c.overlaps-errors.result }
-
 pub returns-in-TurnedAway : goal.returns-in-TurnedAway
 unfolding result_of
 returns-in-TurnedAway c words bytes payload = rw c.in-TurnedAway.is c.turned_away.ensures
@@ -66,20 +60,17 @@ returns-in-Fails c words bytes payload =
     rw (e, ← (gone (goal.at.returns-in-Fails c).After-after_test-h words bytes payload _ e), ← (c.after_test-h.ensures words bytes), ← (c.overlaps-errors.ensures words bytes))
     c.failed.ensures
 
-pub returns-in-Joins : goal.returns-in-Joins
-unfolding result_of
-returns-in-Joins c words bytes payload =
-    let e = c.in-Joins.is in
-    rw (e, ← (joins (goal.at.returns-in-Joins c).After-after_test-h words bytes payload Fate.Joins e false)) c.accepted.ensures
-
 pub returns-in-Finishes : goal.returns-in-Finishes
 unfolding result_of
 returns-in-Finishes c words bytes payload =
     let e = c.in-Finishes.is in
-    rw (e, ← (joins (goal.at.returns-in-Finishes c).After-after_test-h words bytes payload Fate.Finishes e true)) c.accepted-in-Finishes.ensures
+    rw (e, ← (joins (goal.at.returns-in-Finishes c).After-after_test-h words bytes payload Fate.Finishes e true)) c.accepted.ensures
 
-pub returns-in-Falls : goal.returns-in-Falls
+pub returns-in-Joins : goal.returns-in-Joins
 unfolding result_of
-returns-in-Falls c words bytes payload =
-    let e = c.in-Falls.is in
-    rw (e, ← (joins (goal.at.returns-in-Falls c).After-after_test-h words bytes payload Fate.Falls e false)) c.accepted-in-Falls.ensures
+returns-in-Joins c words bytes payload =
+    let at = (goal.at.returns-in-Joins c).After-after_test-h in
+    elim c.in-Joins.is [
+      | inl joined ↦ rw (joined, ← (joins at words bytes payload Fate.Joins joined false)) c.accepted-in-Joins.ensures
+      | inr falls ↦ rw (falls, ← (joins at words bytes payload Fate.Falls falls false)) c.accepted-in-Joins.ensures
+    ]

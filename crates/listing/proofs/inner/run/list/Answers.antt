@@ -7,4 +7,4 @@ pub records-listed-requires : goal.records-listed-requires
 records-listed-requires g c =
     let r = c.refill-refilled in
     let p = c.requires in
-    (r.ensures.part.0, has_a_byte r.new.buffer r.result.part.held (sym c.version-version.ensures ∙ c.in-Ours.is), p.0, p.1)
+    (r.ensures.part.0, has_a_byte r.new.buffer r.result.part.held (sym c.version-version.ensures ∙ c.in-Ok.is), p.0, p.1)

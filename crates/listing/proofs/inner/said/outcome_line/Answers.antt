@@ -2,5 +2,5 @@
 use Rattle.listing.proofs.Ending.{no_text}
 use Rattle.listing.proofs.inner.said.outcome_line.Goals as goal
 
-pub returns-in-GoesOn : goal.returns-in-GoesOn
-returns-in-GoesOn c = rw c.in-GoesOn.is (no_text _ _)
+pub returns-in-None : goal.returns-in-None
+returns-in-None c = rw c.in-None.is (no_text _ _)

@@ -11,17 +11,17 @@ returns c =
     then _ c.flag-control.ensures.0
     (then _ c.flag-b_open.ensures.0
     (then _ c.flag-b_close.ensures.0
-    (then _ c.serialized-reason.ensures.0
-    (then _ c.flag-paused.ensures.0
-    (then _ c.flag-reliable.ensures.0
-    (then _ c.packed-channel.ensures.0
-    (then _ c.flag-exports.ensures.0
-    (then _ c.flag-mapped.ensures.0
-    (then _ c.flag-partial.ensures.0
+    (then _ c.serialized-close_reason.ensures.0
+    (then _ c.flag-b_is_replication_paused.ensures.0
+    (then _ c.flag-b_reliable.ensures.0
+    (then _ c.packed-ch_index.ensures.0
+    (then _ c.flag-b_has_package_map_exports.ensures.0
+    (then _ c.flag-b_has_must_be_mapped_guids.ensures.0
+    (then _ c.flag-b_partial.ensures.0
     (then _ c.flag-ignored.ensures.0
-    (then _ c.flag-initial.ensures.0
-    (then _ c.flag-last.ensures.0
+    (then _ c.flag-b_partial_initial.ensures.0
+    (then _ c.flag-b_partial_final.ensures.0
     (then _ c.flag-hardcoded.ensures.0
     (then _ c.packed-name.ensures.0
-    (then _ c.serialized-count.ensures.0
+    (then _ c.serialized-payload_bit_count.ensures.0
     (gives _ _))))))))))))))))

@@ -7,4 +7,4 @@ pub returns : goal.returns
 returns c =
     let id = c.of_word-packet_id in
     let sequence = c.of_word-ch_sequence in
-    simp (to_z-of_z w32 id.result (record { sfits = id.type_inv }), to_z-of_z w32 sequence.result (record { sfits = sequence.type_inv })) (simp (id.ensures, sequence.ensures, c.from_raw-close_reason.ensures))
+    simp (to_z-of_z w32 id.result (record { sfits = id.type_inv }), to_z-of_z w32 sequence.result (record { sfits = sequence.type_inv })) (simp (id.ensures, sequence.ensures, c.from_raw-close_reason.ensures, c.from.ensures))

@@ -11,62 +11,62 @@ pub find-requires : goal.find-requires
 find-requires c =
     let a = c.args in
     let p = c.requires.0 in
-    let fits : a.live ≤ length a.channels.now = omega (arith, p.live_fits, p.room) in
-    let few : a.live ≤ 4096 = omega (arith, p.live_fits, p.few) in
+    let fits : a.live.now ≤ length a.channels.now = omega (arith, p.live_fits, p.room) in
+    let few : a.live.now ≤ 4096 = omega (arith, p.live_fits, p.few) in
     (fits, few, p.ascends)
 
 pub offset_bounds-numbers-i : goal.offset_bounds-numbers-i
 offset_bounds-numbers-i c =
     let a = c.args in
     let p = c.requires in
-    let h = at_inside a.channels.now a.numbers.now p.0 p.1 a.channel c.in-At.i (sym c.find.ensures ∙ c.in-At.is) in
+    let h = at_inside a.channels.now a.numbers.now p.0 p.1 a.channel c.in-Ok.i (sym c.find.ensures ∙ c.in-Ok.is) in
     omega (arith, h, p.0.few, p.0.live_fits)
 
 pub bounds-numbers-i : goal.bounds-numbers-i
 bounds-numbers-i c =
     let a = c.args in
     let p = c.requires in
-    let h = at_inside a.channels.now a.numbers.now p.0 p.1 a.channel c.in-At.i (sym c.find.ensures ∙ c.in-At.is) in
+    let h = at_inside a.channels.now a.numbers.now p.0 p.1 a.channel c.in-Ok.i (sym c.find.ensures ∙ c.in-Ok.is) in
     omega (arith, h, p.1, p.0.live_fits)
 
 pub returns-then-is_last : goal.returns-then-is_last
 returns-then-is_last c =
     let a = c.args in
     let p = c.requires in
-    sym (at_last a.channels.now a.numbers.now p.0 p.1 a.channel c.in-At.i (sym c.find.ensures ∙ c.in-At.is) (eqb-true (get_or a.numbers.now c.in-At.i 0) 2147483647 (sym c.is_last.ensures ∙ c.if-is_last.true)))
+    sym (at_last a.channels.now a.numbers.now p.0 p.1 a.channel c.in-Ok.i (sym c.find.ensures ∙ c.in-Ok.is) (eqb-true (get_or a.numbers.now c.in-Ok.i 0) 2147483647 (sym c.is_last.ensures ∙ c.if-is_last.true)))
 
-pub offset_bounds-numbers-i-in-At : goal.offset_bounds-numbers-i-in-At
-offset_bounds-numbers-i-in-At c =
+pub offset_bounds-numbers-i-in-Ok : goal.offset_bounds-numbers-i-in-Ok
+offset_bounds-numbers-i-in-Ok c =
     let a = c.args in
     let p = c.requires in
-    let h = at_inside a.channels.now a.numbers.now p.0 p.1 a.channel c.in-At.i (sym c.find.ensures ∙ c.in-At.is) in
+    let h = at_inside a.channels.now a.numbers.now p.0 p.1 a.channel c.in-Ok.i (sym c.find.ensures ∙ c.in-Ok.is) in
     omega (arith, h, p.0.few, p.0.live_fits)
 
-pub bounds-numbers-i-in-At : goal.bounds-numbers-i-in-At
-bounds-numbers-i-in-At c =
+pub bounds-numbers-i-in-Ok : goal.bounds-numbers-i-in-Ok
+bounds-numbers-i-in-Ok c =
     let a = c.args in
     let p = c.requires in
-    let h = at_inside a.channels.now a.numbers.now p.0 p.1 a.channel c.in-At.i (sym c.find.ensures ∙ c.in-At.is) in
+    let h = at_inside a.channels.now a.numbers.now p.0 p.1 a.channel c.in-Ok.i (sym c.find.ensures ∙ c.in-Ok.is) in
     omega (arith, h, p.1, p.0.live_fits)
 
 pub returns-then-limit-live : goal.returns-then-limit-live
 returns-then-limit-live c =
     let a = c.args in
     let p = c.requires in
-    sym (free_full a.channels.now a.numbers.now p.0 p.1 a.channel c.in-Free.i (sym c.find.ensures ∙ c.in-Free.is) c.if-limit-live.true)
+    sym (free_full a.channels.now a.numbers.now p.0 p.1 a.channel c.in-Err.i (sym c.find.ensures ∙ c.in-Err.is) c.if-limit-live.true)
 
 pub insert-requires : goal.insert-requires
 insert-requires c =
     let a = c.args in
     let p = c.requires in
-    let h = free_inside a.channels.now a.numbers.now p.0 p.1 a.channel c.in-Free.i (sym c.find.ensures ∙ c.in-Free.is) in
+    let h = free_inside a.channels.now a.numbers.now p.0 p.1 a.channel c.in-Err.i (sym c.find.ensures ∙ c.in-Err.is) in
     (h, omega (arith, p.0.room, c.if-limit-live.false))
 
-pub insert-requires-in-Free : goal.insert-requires-in-Free
-insert-requires-in-Free c =
+pub insert-requires-in-Err : goal.insert-requires-in-Err
+insert-requires-in-Err c =
     let a = c.args in
     let p = c.requires in
-    let h = free_inside a.channels.now a.numbers.now p.0 p.1 a.channel c.in-Free.i (sym c.find.ensures ∙ c.in-Free.is) in
+    let h = free_inside a.channels.now a.numbers.now p.0 p.1 a.channel c.in-Err.i (sym c.find.ensures ∙ c.in-Err.is) in
     (h, omega (arith, p.1, c.if-limit-live.false))
 
 pub returns-else-is_last : goal.returns-else-is_last
@@ -74,12 +74,12 @@ returns-else-is_last c =
     let a = c.args in
     let p = c.requires in
     rw c.following-next.ensures
-    (sym (at_next a.channels.now a.numbers.now p.0 p.1 a.channel c.in-At.i (sym c.find.ensures ∙ c.in-At.is) (eqb-false (get_or a.numbers.now c.in-At.i 0) 2147483647 (sym c.is_last.ensures ∙ c.if-is_last.false))))
+    (sym (at_next a.channels.now a.numbers.now p.0 p.1 a.channel c.in-Ok.i (sym c.find.ensures ∙ c.in-Ok.is) (eqb-false (get_or a.numbers.now c.in-Ok.i 0) 2147483647 (sym c.is_last.ensures ∙ c.if-is_last.false))))
 
 pub returns-else-limit-live : goal.returns-else-limit-live
 returns-else-limit-live c =
     let a = c.args in
     let p = c.requires in
-    let n : a.live + 1 ≡ suc a.live = omega arith in
-    rw (c.insert.ensures, c.insert-in-Free.ensures, n)
-    (sym (free_new a.channels.now a.numbers.now p.0 p.1 a.channel c.in-Free.i (sym c.find.ensures ∙ c.in-Free.is) c.if-limit-live.false))
+    let n : a.live.now + 1 ≡ suc a.live.now = omega arith in
+    rw (c.insert.ensures, c.insert-in-Err.ensures, n)
+    (sym (free_new a.channels.now a.numbers.now p.0 p.1 a.channel c.in-Err.i (sym c.find.ensures ∙ c.in-Err.is) c.if-limit-live.false))

@@ -10,32 +10,32 @@ pub remove-requires : goal.remove-requires
 remove-requires c =
     let a = c.args in
     let p = c.requires in
-    (at_live a.channel c.in-At.i a.live a.channels.now p.0.room (sym c.find.ensures ∙ c.in-At.is), p.0.room)
+    (at_live a.channel c.in-Ok.i a.live.now a.channels.now p.0.room (sym c.find.ensures ∙ c.in-Ok.is), p.0.room)
 
-pub remove-requires-in-At : goal.remove-requires-in-At
-remove-requires-in-At c =
+pub remove-requires-in-Ok : goal.remove-requires-in-Ok
+remove-requires-in-Ok c =
     let a = c.args in
     let p = c.requires in
-    (at_live a.channel c.in-At.i a.live a.channels.now p.0.room (sym c.find.ensures ∙ c.in-At.is), p.1)
+    (at_live a.channel c.in-Ok.i a.live.now a.channels.now p.0.room (sym c.find.ensures ∙ c.in-Ok.is), p.1)
 
-pub overflow_sub-result : goal.overflow_sub-result
-overflow_sub-result c =
+pub overflow_sub-live : goal.overflow_sub-live
+overflow_sub-live c =
     let a = c.args in
     omega
-    (arith, at_live a.channel c.in-At.i a.live a.channels.now c.requires.0.room (sym c.find.ensures ∙ c.in-At.is))
+    (arith, at_live a.channel c.in-Ok.i a.live.now a.channels.now c.requires.0.room (sym c.find.ensures ∙ c.in-Ok.is))
 
-pub returns-in-At : goal.returns-in-At
-returns-in-At c =
+pub returns-in-Ok : goal.returns-in-Ok
+returns-in-Ok c =
     let a = c.args in
     let p = c.requires in
-    let slot = sym c.find.ensures ∙ c.in-At.is in
-    let h = at_live a.channel c.in-At.i a.live a.channels.now p.0.room slot in
-    let n : suc (a.live - 1) ≡ a.live = omega (arith, h) in
-    rw (c.remove.ensures, c.remove-in-At.ensures)
-    (sequence_gone a.channel c.in-At.i a.channels.now a.numbers.now p.0 p.1 slot n)
+    let slot = sym c.find.ensures ∙ c.in-Ok.is in
+    let h = at_live a.channel c.in-Ok.i a.live.now a.channels.now p.0.room slot in
+    let n : suc (a.live.now - 1) ≡ a.live.now = omega (arith, h) in
+    rw (c.remove.ensures, c.remove-in-Ok.ensures)
+    (sequence_gone a.channel c.in-Ok.i a.channels.now a.numbers.now p.0 p.1 slot n)
 
-pub returns-in-Free : goal.returns-in-Free
-returns-in-Free c =
+pub returns-in-Err : goal.returns-in-Err
+returns-in-Err c =
     let a = c.args in
     let p = c.requires in
-    sequence_absent a.channel _ a.channels.now a.numbers.now p.0 p.1 (sym c.find.ensures ∙ c.in-Free.is)
+    sequence_absent a.channel _ a.channels.now a.numbers.now p.0 p.1 (sym c.find.ensures ∙ c.in-Err.is)

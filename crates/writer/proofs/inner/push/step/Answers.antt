@@ -27,7 +27,7 @@ returns-then-left-ge64 c =
 pub returns : goal.returns
 returns c =
     let a = c.args in
-    let n = c.least-count in record {
+    let n = c.min-count in record {
       reached = (omega arith, omega arith);
       leaves = c.push-2.ensures
           ∙ ap (put_bits a.packet.now a.at)

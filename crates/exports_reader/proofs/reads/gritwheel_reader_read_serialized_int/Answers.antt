@@ -1,6 +1,0 @@
--- The words of what the call answers.
-use mathlib.Core.Path.{◌∙◌}
-use Rattle.exports_reader.proofs.reads.gritwheel_reader_read_serialized_int.Goals as goal
-
-pub returns : goal.returns
-returns c = c.of_u32-answer.ensures ∙ rw (c.read_serialized_int.ensures, c.window_at.ensures)
