@@ -5,8 +5,8 @@ ghost use Rattle.bitio_window.specs.Windows.{sub_reader, skip_bits, skip_remaini
 ghost use Rattle.exports_words.specs.Words.{words, opened_words, count_words, none, window_words};
 
 use bitio::windows;
-use exports_words::words;
 use exports_words::words::Words;
+use exports_words::{inner, words};
 
 #[unsafe(no_mangle)]
 pub extern "C" fn gritwheel_new(bytes: &[u8], out: &mut Words)
@@ -62,7 +62,7 @@ pub extern "C" fn gritwheel_sub_reader(
 )
     ensures { out.new ≡ words window_words (sub_reader count bytes.now (window_at start position length)) }
 {
-    *out = words::of_call(
+    *out = inner::of_call(
         start,
         position,
         length,
@@ -81,7 +81,7 @@ pub extern "C" fn gritwheel_skip_bits(
 )
     ensures { out.new ≡ words none (skip_bits count bytes.now (window_at start position length)) }
 {
-    *out = words::of_call(
+    *out = inner::of_call(
         start,
         position,
         length,
@@ -99,7 +99,7 @@ pub extern "C" fn gritwheel_skip_remaining(
 )
     ensures { out.new ≡ words none (skip_remaining bytes.now (window_at start position length)) }
 {
-    *out = words::of_call(
+    *out = inner::of_call(
         start,
         position,
         length,

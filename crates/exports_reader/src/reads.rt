@@ -7,8 +7,8 @@ ghost use Rattle.bitio_window.specs.Windows.{window_at};
 ghost use Rattle.exports_words.specs.Words.{words, one, flag_word, signed_word, pattern, float};
 
 use bitio_reader::plain;
-use exports_words::words;
 use exports_words::words::Words;
+use exports_words::{inner, words};
 
 #[unsafe(no_mangle)]
 pub extern "C" fn gritwheel_reader_read_bit(
@@ -20,7 +20,7 @@ pub extern "C" fn gritwheel_reader_read_bit(
 )
     ensures { out.new ≡ words flag_word (read_bit bytes.now (window_at start position length)) }
 {
-    *out = words::of_call(start, position, length, |w| plain::read_bit(bytes, w));
+    *out = inner::of_call(start, position, length, |w| plain::read_bit(bytes, w));
 }
 
 #[unsafe(no_mangle)]
@@ -34,7 +34,7 @@ pub extern "C" fn gritwheel_reader_read_bits(
 )
     ensures { out.new ≡ words one (read_bits count bytes.now (window_at start position length)) }
 {
-    *out = words::of_call(
+    *out = inner::of_call(
         start,
         position,
         length,
@@ -52,7 +52,7 @@ pub extern "C" fn gritwheel_reader_read_u8(
 )
     ensures { out.new ≡ words one (read_bits 8 bytes.now (window_at start position length)) }
 {
-    *out = words::of_call(start, position, length, |w| plain::read_u8(bytes, w));
+    *out = inner::of_call(start, position, length, |w| plain::read_u8(bytes, w));
 }
 
 #[unsafe(no_mangle)]
@@ -65,7 +65,7 @@ pub extern "C" fn gritwheel_reader_read_u16(
 )
     ensures { out.new ≡ words one (read_bits 16 bytes.now (window_at start position length)) }
 {
-    *out = words::of_call(start, position, length, |w| plain::read_u16(bytes, w));
+    *out = inner::of_call(start, position, length, |w| plain::read_u16(bytes, w));
 }
 
 #[unsafe(no_mangle)]
@@ -78,7 +78,7 @@ pub extern "C" fn gritwheel_reader_read_u32(
 )
     ensures { out.new ≡ words one (read_bits 32 bytes.now (window_at start position length)) }
 {
-    *out = words::of_call(start, position, length, |w| plain::read_u32(bytes, w));
+    *out = inner::of_call(start, position, length, |w| plain::read_u32(bytes, w));
 }
 
 #[unsafe(no_mangle)]
@@ -91,7 +91,7 @@ pub extern "C" fn gritwheel_reader_read_i32(
 )
     ensures { out.new ≡ words signed_word (read_i32 bytes.now (window_at start position length)) }
 {
-    *out = words::of_call(start, position, length, |w| plain::read_i32(bytes, w));
+    *out = inner::of_call(start, position, length, |w| plain::read_i32(bytes, w));
 }
 
 #[unsafe(no_mangle)]
@@ -104,7 +104,7 @@ pub extern "C" fn gritwheel_reader_read_u64(
 )
     ensures { out.new ≡ words one (read_bits 64 bytes.now (window_at start position length)) }
 {
-    *out = words::of_call(start, position, length, |w| plain::read_u64(bytes, w));
+    *out = inner::of_call(start, position, length, |w| plain::read_u64(bytes, w));
 }
 
 #[tactic(auto, using(exports_words::proofs::Floats::float_words, exports_words::proofs::Floats::float_stored))]
@@ -155,7 +155,7 @@ pub extern "C" fn gritwheel_reader_read_int_packed(
 )
     ensures { out.new ≡ words one (read_packed bytes.now (window_at start position length)) }
 {
-    *out = words::of_call(
+    *out = inner::of_call(
         start,
         position,
         length,
@@ -174,7 +174,7 @@ pub extern "C" fn gritwheel_reader_read_serialized_int(
 )
     ensures { out.new ≡ words one (read_serialized max bytes.now (window_at start position length)) }
 {
-    *out = words::of_call(
+    *out = inner::of_call(
         start,
         position,
         length,

@@ -5,8 +5,8 @@ ghost use Rattle.bitio_window.specs.Windows.{at_end, sub_reader, skip_bits, skip
 ghost use Rattle.exports_words.specs.Words.{words, opened_words, count_words, none, window_words};
 
 use bitio_reader::plain;
-use exports_words::words;
 use exports_words::words::Words;
+use exports_words::{inner, words};
 
 #[unsafe(no_mangle)]
 pub extern "C" fn gritwheel_reader_new(bytes: &[u8], out: &mut Words)
@@ -83,7 +83,7 @@ pub extern "C" fn gritwheel_reader_sub_reader(
 )
     ensures { out.new ≡ words window_words (sub_reader count bytes.now (window_at start position length)) }
 {
-    *out = words::of_call(
+    *out = inner::of_call(
         start,
         position,
         length,
@@ -102,7 +102,7 @@ pub extern "C" fn gritwheel_reader_skip_bits(
 )
     ensures { out.new ≡ words none (skip_bits count bytes.now (window_at start position length)) }
 {
-    *out = words::of_call(
+    *out = inner::of_call(
         start,
         position,
         length,
@@ -120,5 +120,5 @@ pub extern "C" fn gritwheel_reader_skip_remaining(
 )
     ensures { out.new ≡ words none (skip_remaining bytes.now (window_at start position length)) }
 {
-    *out = words::of_call(start, position, length, |w| plain::skip_remaining(bytes, w));
+    *out = inner::of_call(start, position, length, |w| plain::skip_remaining(bytes, w));
 }

@@ -2,5 +2,6 @@
 // (specs/Walks.antt).
 #![tactic(auto)]
 
+pub mod inner;
 pub mod values;
 pub mod words;

@@ -1,6 +1,5 @@
 // Answers as words.
 ghost use Rattle.std.specs.Prelude.{◌≡◌, [], ◌∷◌, ◌++◌, length};
-ghost use Rattle.std.specs.Fn.{FnOnceReturnsAtMut};
 ghost use Rattle.bitio_window.specs.declared.Window.{Window};
 ghost use Rattle.bitio_window.specs.Refusals.{paper};
 ghost use Rattle.bitio_window.specs.Answers.{answer, outcome};
@@ -65,23 +64,6 @@ pub fn of_read<T: Value>(read: Result<T, BitError>, w: Window) -> Words
         Ok(value) => seven(0, value.words(), w),
         Err(e) => refused(e, w),
     }
-}
-
-// What a call answers at a window, with the window where it leaves it.
-pub fn of_call<T: Value, F: FnOnce(&mut Window) -> Result<T, BitError>>(
-    start: u64,
-    position: u64,
-    length: u64,
-    call: F,
-) -> Words
-    requires { F.IsAlwaysCallable call }
-    ensures { (read : _) × (left : Window)
-        × FnOnceReturnsAtMut F.FnOnce call (window_at start position length) read left
-        × (result ≡ words T.words (answer read left)) }
-{
-    let mut w = window_at(start, position, length);
-    let read = call(&mut w);
-    of_read(read, w)
 }
 
 #[tactic(auto, unfolding(crate::specs::Words::opened_words))]
