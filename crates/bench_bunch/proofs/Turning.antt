@@ -6,12 +6,13 @@ use Rattle.bunch_held.specs.declared.Accumulator.{Accumulator}
 use Rattle.bunch_held.specs.Memory.{HeldMemory}
 use Rattle.bunch_held.specs.Steps.{Act, adding, taking, BunchAnswer, local}
 use Rattle.bunch_held.specs.Calls.{BunchReply, held_by, limits_of}
-use Rattle.bunch_settling.specs.Settling.{Counts, Using}
+use Rattle.bunch_settling.specs.declared.inner.messages.Settled.{Settled}
+use Rattle.bunch_settling.specs.Settling.{Using}
 use Rattle.bunch_settling.specs.Giving.{Gives}
 use Rattle.bunch_settling.proofs.Giving.{goes}
 use Rattle.bench_bunch.specs.Chains.{summed, answer_words, Run, run, going_on, timed_call, turn}
 
-pub calls : (a : Accumulator) (m : HeldMemory) {used : ℕ} → Using a m used → (c : ℕ) (act : Act) (output : List ℕ) (sum : ℕ) {answer : BunchAnswer} {r : Counts} {after : HeldMemory} {out : List ℕ} {s : ℕ}
+pub calls : (a : Accumulator) (m : HeldMemory) {used : ℕ} → Using a m used → (c : ℕ) (act : Act) (output : List ℕ) (sum : ℕ) {answer : BunchAnswer} {r : Settled} {after : HeldMemory} {out : List ℕ} {s : ℕ}
     → Gives a m c (local (limits_of a) (held_by a m) c act output) answer r after out → s ≡ summed sum (answer_words answer)
     → run r.accumulator after out s ≡ timed_call c act (run a m output sum)
 unfolding timed_call

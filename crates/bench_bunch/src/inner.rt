@@ -13,7 +13,7 @@ use bunch_held::{Accumulator, BunchError};
 use bunch_joining::inner::{adding, taking};
 use bunch_joining::{Judged, PreservedPartial};
 use bunch_places::Place;
-use bunch_settling::inner::messages::Settled;
+use bunch_settling::inner::messages::SettledMemory;
 use exports_bunch_words::fragments::of_result;
 use types::RawBunchHeader;
 use words::{HeaderWords, header_of, of_header};
@@ -57,7 +57,7 @@ fn with_taken(sum: u64, answer: Result<Option<PreservedPartial>, BunchError>) ->
 pub type SumWords = [u64; 3];
 
 fn add(
-    s: &mut Settled<'_>,
+    s: &mut SettledMemory<'_>,
     sum: u64,
     header: RawBunchHeader,
     payload: &[u8],
@@ -75,7 +75,7 @@ fn add(
     with_added(sum, answer)
 }
 
-fn take(s: &mut Settled<'_>, sum: u64, ch_index: u32, output: &mut [u8]) -> u64
+fn take(s: &mut SettledMemory<'_>, sum: u64, ch_index: u32, output: &mut [u8]) -> u64
     requires { Using s.old.accumulator (settled_memory s.old) s.old.used }
     ensures same { SameSlices s.old s.new }
     ensures runs { (run s.new.accumulator (settled_memory s.new) output.new result
@@ -87,7 +87,13 @@ fn take(s: &mut Settled<'_>, sum: u64, ch_index: u32, output: &mut [u8]) -> u64
 }
 
 // A fragment is added, and its message taken if it is the last.
-fn one(s: &mut Settled<'_>, sum: u64, words: HeaderWords, payload: &[u8], output: &mut [u8]) -> u64
+fn one(
+    s: &mut SettledMemory<'_>,
+    sum: u64,
+    words: HeaderWords,
+    payload: &[u8],
+    output: &mut [u8],
+) -> u64
     requires { Using s.old.accumulator (settled_memory s.old) s.old.used }
     ensures same { SameSlices s.old s.new }
     ensures runs { (run s.new.accumulator (settled_memory s.new) output.new result
@@ -127,7 +133,7 @@ pub extern "C" fn timing_chains(
         let last = chains payloads.now headers.now (run a before output.old 0) in
         Ends last out.new after output.new result }
 {
-    let mut s = Settled {
+    let mut s = SettledMemory {
         accumulator: Accumulator {
             max_active,
             max_buffered_bits,
@@ -144,7 +150,8 @@ pub extern "C" fn timing_chains(
         let at = (k % 61) * 1000;
         sum = one(&mut s, sum, *words, &payloads[at..at + 1000], output);
     }
-    let a = s.accumulator;
+    let left = s.counts();
+    let a = left.accumulator;
     *out = [sum, a.active as u64, a.total_buffered_bits];
-    s.used
+    left.used
 }

@@ -1,6 +1,7 @@
 // The public calls on a channel: a fragment added, a finished message taken, a channel retired. Each tests the lent memory, then goes
 // on with the inner form. A refusal leaves all as it was.
-ghost use Rattle.std.specs.Prelude.{◌≡◌};
+ghost use Rattle.std.specs.Prelude.{◌≡◌, Err};
+ghost use Rattle.bunch_held.specs.declared.BunchError.{BunchError};
 ghost use Rattle.bunch_held.specs.Memory.{memory_of, SameMemory};
 ghost use Rattle.bunch_held.specs.Steps.{adding, taking, retiring};
 ghost use Rattle.bunch_held.specs.Calls.{called};
@@ -11,8 +12,15 @@ ghost use Rattle.bunch_judging.specs.Held.{fragment_of};
 use bunch_held::{Accumulator, BunchError, LentMemory};
 use bunch_joining::inner::{adding, taking};
 use bunch_joining::{Judged, PreservedPartial};
-use bunch_settling::inner::messages::Settled;
+use bunch_settling::inner::messages::SettledMemory;
 use types::RawBunchHeader;
+
+// What a call that hands out a message answers where the memory isn't sound: not that it holds nothing.
+fn unsound() -> Result<Option<PreservedPartial>, BunchError>
+    ensures { result ≡ Err BunchError.Unsound }
+{
+    Err(BunchError::Unsound)
+}
 
 // The channel's finished message: its header and bits, its bytes to the output.
 pub fn take_completed(
@@ -25,8 +33,10 @@ pub fn take_completed(
     ensures reply { of_taken result a.new (memory_of memory.new) output.new
         ≡ called a.old (memory_of memory.old) ch_index taking output.old }
 {
-    let used = memory.test(*a)?;
-    let mut s = Settled {
+    let Ok(used) = memory.test(*a) else {
+        return unsound();
+    };
+    let mut s = SettledMemory {
         accumulator: *a,
         used,
         channels: memory.channels,
@@ -50,8 +60,10 @@ pub fn retire_channel(
     ensures reply { of_taken result a.new (memory_of memory.new) output.new
         ≡ called a.old (memory_of memory.old) ch_index retiring output.old }
 {
-    let used = memory.test(*a)?;
-    let mut s = Settled {
+    let Ok(used) = memory.test(*a) else {
+        return unsound();
+    };
+    let mut s = SettledMemory {
         accumulator: *a,
         used,
         channels: memory.channels,
@@ -78,7 +90,7 @@ pub fn add_fragment(
         ≡ called a.old (memory_of memory.old) ch_index (adding (fragment_of header bits payload.now)) output.old }
 {
     let used = memory.test(*a)?;
-    let mut s = Settled {
+    let mut s = SettledMemory {
         accumulator: *a,
         used,
         channels: memory.channels,

@@ -31,7 +31,9 @@ pub fn drain_unfinished(
     ensures { let before = held_memory channels.now places.now arena.now in
         of_emptied result a.new output.new list.new ≡ drained a.old before output.old list.old }
 {
-    memory::pass(*a, channels, places, arena)?;
+    let Ok(_) = memory::pass(*a, channels, places, arena) else {
+        return Err(BunchError::Unsound);
+    };
     let wanted = inner::count(places, a.active);
     if output.len() < wanted.bytes {
         return Err(BunchError::OutputShort {

@@ -23,7 +23,8 @@ use Rattle.bunch_held.specs.Memory.{HeldMemory, size_all}
 use Rattle.bunch_held.specs.Steps.{BunchAnswer, judged, told_all, adding, holding, local}
 use Rattle.bunch_held.specs.Calls.{held_by, limits_of}
 use Rattle.bunch_held.proofs.Edits.{get_none}
-use Rattle.bunch_settling.specs.Settling.{Counts, Using, Lays}
+use Rattle.bunch_settling.specs.declared.inner.messages.Settled.{Settled}
+use Rattle.bunch_settling.specs.Settling.{Using, Lays}
 use Rattle.bunch_settling.specs.Giving.{Gives}
 use Rattle.bunch_settling.proofs.Giving.{free_same}
 use Rattle.bunch_settling.specs.declared.inner.fragments.Weighed.{Weighed}
@@ -88,7 +89,7 @@ module _ (a : Accumulator) (m : HeldMemory) (used : ℕ) (u : Using a m used) (c
           kept = rw met_is (new_kept a m used u c i f slot f.header (rw sequence_is.0 at sequence_is.1) enough room much (full_free a m used u c i f slot) (over_free a m used u c i f slot));
         }
 
-    pub gives_judged : (output : List ℕ) {out : List ℕ} {r : Counts} {after : HeldMemory} {told : BunchAnswer} → bytes_of w.payload ≤ length output → out ≡ pasted 0 bytes output
+    pub gives_judged : (output : List ℕ) {out : List ℕ} {r : Settled} {after : HeldMemory} {told : BunchAnswer} → bytes_of w.payload ≤ length output → out ≡ pasted 0 bytes output
         → told ≡ judged (result_of w.fate none f) (told_all (displaced w.fate none f)) → Lays a m (holding c (left_by w.effect none f.header f.bits f.payload) (held_by a m)) r after
         → Gives a m c (local (limits_of a) (held_by a m) c (adding f) output) told r after out
     unfolding after_test overlaps

@@ -21,7 +21,8 @@ use Rattle.bunch_held.specs.Calls.{held_by}
 use Rattle.bunch_held.proofs.Holding.{message_at, kept}
 use Rattle.bunch_held.proofs.Keeping.{without_kept}
 use Rattle.bunch_held.proofs.Edits.{get_there, get_none}
-use Rattle.bunch_settling.specs.Settling.{Counts, Using, Lays}
+use Rattle.bunch_settling.specs.declared.inner.messages.Settled.{Settled}
+use Rattle.bunch_settling.specs.Settling.{Using, Lays}
 use Rattle.bunch_settling.specs.Giving.{Gives}
 use Rattle.bunch_settling.proofs.Numbers.{spot}
 use Rattle.bunch_settling.proofs.Giving.{at_same, free_same, unchanged, changes}
@@ -61,7 +62,7 @@ module _ (a : Accumulator) (m : HeldMemory) (used : ℕ) (u : Using a m used) (c
     gives_short n output e h =
         rw (e, retired_short output (rw e at h)) (unchanged a m used u c (call_refuses (output_short (size_of p)) (found (message_at m i)) output) refl refl (at_same a m used u c i slot))
 
-    pub gives_message : (output : List ℕ) {out : List ℕ} {left : Counts} {after : HeldMemory} → size_of p ≤ length output → out ≡ pasted 0 (part start (size_of p) m.arena) output
+    pub gives_message : (output : List ℕ) {out : List ℕ} {left : Settled} {after : HeldMemory} → size_of p ≤ length output → out ≡ pasted 0 (part start (size_of p) m.arena) output
         → Lays a m (without c (held_by a m)) left after
         → Gives a m c (retired (get c (held_by a m)) output) (handed (record { header = header_from (drop 4 p); bits = bits_in_place p })) left after out
     gives_message output h e l =

@@ -34,7 +34,8 @@ use Rattle.bunch_held.specs.Steps.{BunchAnswer, judged, told_all, call_refuses, 
 use Rattle.bunch_held.specs.Calls.{held_by, limits_of}
 use Rattle.bunch_held.proofs.Holding.{kept}
 use Rattle.bunch_held.proofs.Keeping.{without_kept}
-use Rattle.bunch_settling.specs.Settling.{Counts, Using, Lays}
+use Rattle.bunch_settling.specs.declared.inner.messages.Settled.{Settled}
+use Rattle.bunch_settling.specs.Settling.{Using, Lays}
 use Rattle.bunch_settling.specs.Giving.{Gives}
 use Rattle.bunch_held.proofs.Edits.{get_there, get_none}
 use Rattle.bunch_settling.proofs.Giving.{at_same, free_same, unchanged, changes}
@@ -112,7 +113,7 @@ module _ (a : Accumulator) (m : HeldMemory) (used : ℕ) (u : Using a m used) (c
         → Gives a m c (local (limits_of a) s c (adding f) output) (of_judged (Err (BunchError.OutputShort n))) (record { accumulator = a; used = used }) m output
     gives_short n n_is h same = rw (local_is, ← n_is, lt-ltb (length output) n h) (unchanged a m used u c (call_refuses (output_short n) k output) refl refl same)
 
-    pub gives_judged : (bytes : List ℕ) {out : List ℕ} {r : Counts} {after : HeldMemory} {told : BunchAnswer} → bytes ≡ shown e k f → length bytes ≤ length output → out ≡ pasted 0 bytes output → told ≡ answer
+    pub gives_judged : (bytes : List ℕ) {out : List ℕ} {r : Settled} {after : HeldMemory} {told : BunchAnswer} → bytes ≡ shown e k f → length bytes ≤ length output → out ≡ pasted 0 bytes output → told ≡ answer
         → (e.stays ≡ true → Kept a (put c (stayed_by e k (after_test k f.header) f.bits f.payload) s)) → Lays a m (holding c (left_after e k f) s) r after
         → Gives a m c (local (limits_of a) s c (adding f) output) told r after out
     gives_judged bytes bytes_are fits out-is told_is stays lays =

@@ -30,7 +30,8 @@ use Rattle.bunch_held.specs.Calls.{held_by, limits_of}
 use Rattle.bunch_held.proofs.Holding.{message_at, kept}
 use Rattle.bunch_held.proofs.Keeping.{good_held}
 use Rattle.bunch_held.proofs.Edits.{get_there}
-use Rattle.bunch_settling.specs.Settling.{Counts, Using, Lays}
+use Rattle.bunch_settling.specs.declared.inner.messages.Settled.{Settled}
+use Rattle.bunch_settling.specs.Settling.{Using, Lays}
 use Rattle.bunch_settling.specs.Giving.{Gives}
 use Rattle.bunch_settling.proofs.Numbers.{spot}
 use Rattle.bunch_settling.proofs.Giving.{at_same}
@@ -134,7 +135,7 @@ module _ (a : Accumulator) (m : HeldMemory) (used : ℕ) (u : Using a m used) (c
             kept = rw (start_is, met_is) (stays_kept a m used u c i f slot h (rw sequence_is.0 at sequence_is.1) enough much much_is);
           }
 
-      pub gives_judged : (output : List ℕ) {out : List ℕ} {r : Counts} {after : HeldMemory} {told : BunchAnswer} → w.held + bytes_of w.payload ≤ length output
+      pub gives_judged : (output : List ℕ) {out : List ℕ} {r : Settled} {after : HeldMemory} {told : BunchAnswer} → w.held + bytes_of w.payload ≤ length output
           → out ≡ pasted 0 (part start w.held m.arena ++ payload_bytes w.payload f.payload) output
           → ((bytes payload : List ℕ) → told ≡ judged (result_of w.fate (held_of standing (drop 4 p) bytes) (record { header = f.header; bits = f.bits; payload = payload })) (told_all (displaced w.fate (held_of standing (drop 4 p) bytes) (record { header = f.header; bits = f.bits; payload = payload }))))
           → Lays a m (holding c (left_by w.effect (found (held_in_place i start m)) h f.bits f.payload) (held_by a m)) r after

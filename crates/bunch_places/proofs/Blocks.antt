@@ -1,17 +1,32 @@
 -- A block read and pasted elsewhere, and a turn of a move by blocks.
 use mathlib.Core.Path.{◌≡◌, refl, sym, ap, ◌∙◌}
-use mathlib.Core.List.{List, [], ◌∷◌, ◌++◌}
+use mathlib.Core.List.{List, [], ◌∷◌, ◌++◌, append-nil}
 use Prim.Native.Nat.{ℕ, zero, suc, ◌+◌, ◌-◌, ◌≤◌}
 use native.Mathlib.Nat.{not-suc-le-zero, le_of_suc-le-suc}
 use native.Mathlib.Omega.{arith}
 use lib.ListN.{length, take, drop}
-use lib.Seq.{take-add, drop-drop}
+use lib.Seq.{take-add, take_all, drop-drop, drop-length}
 use Rattle.tables.specs.Columns.{laid}
 use Rattle.bunch_places.specs.Bytes.{pasted, part}
 use Rattle.bunch_places.proofs.Pastes.{length_part, length_pasted, MovedFrom, moves_all}
 use Rattle.bunch_places.proofs.Arena.{pasted_twice}
 
 module _ {A : Type 0} where
+  -- bytes over all that stands
+  pasted_over : (b m : List A) → length b ≡ length m → pasted 0 b m ≡ b
+  unfolding pasted laid
+  pasted_over b m e = rw (e, drop-length m) (append-nil b)
+
+  part_all : (n : ℕ) (s : List A) → length s ≡ n → part 0 n s ≡ s
+  part_all n s e = take_all n s (omega arith)
+
+  -- by way of a block z
+  pub by_block : (from to k : ℕ) (m z : List A) {b a : List A} → length z ≡ k → from + k ≤ length m → b ≡ pasted 0 (part from k m) z → a ≡ pasted to (part 0 k b) m → a ≡ pasted to (part from k m) m
+  by_block from to k m z {b = b} e h f g =
+      let l = length_part from k m h in
+      let same : b ≡ part from k m = f ∙ pasted_over (part from k m) z (l ∙ sym e) in
+      g ∙ ap (λ (t : List A). pasted to t m) (part_all k b (ap length same ∙ l) ∙ same)
+
   take_before : (k q : ℕ) (b m : List A) → k ≤ q → q ≤ length m → take k (pasted q b m) ≡ take k m
   unfolding pasted
   take_before zero q b m g h = refl

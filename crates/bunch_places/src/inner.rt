@@ -21,18 +21,41 @@ pub fn remove_place(places: &mut [Place], live: usize, at: usize)
     remove(places, live, at);
 }
 
+// By loops, over a block of a known length straight code: a call for a length that is found out at run time keeps what is around it from
+// being inlined, and a copy by the library's calls leaves no place for a fault in one block, which the edits try.
+fn move_down_by_bytes(arena: &mut [u8], from: usize, to: usize, n: usize)
+    requires { (to ≤ from) × (from + n ≤ length arena.old) }
+    ensures { arena.new ≡ moved from to n arena.old }
+{
+    let mut i: usize = 0;
+    while i < n {
+        arena[to + i] = arena[from + i];
+        i += 1;
+    }
+}
+
+fn move_up_by_bytes(arena: &mut [u8], from: usize, to: usize, n: usize)
+    requires { (from ≤ to) × (to + n ≤ length arena.old) }
+    ensures { arena.new ≡ moved from to n arena.old }
+{
+    let mut i = n;
+    while 0 < i {
+        i -= 1;
+        arena[to + i] = arena[from + i];
+    }
+}
+
 // By way of a block of its own: what is read whole before it is written needs no test of how the two parts overlap.
 fn move_block(arena: &mut [u8], from: usize, to: usize)
     requires { (from + 256 ≤ length arena.old) × (to + 256 ≤ length arena.old) }
     ensures { arena.new ≡ moved from to 256 arena.old }
 {
     let mut block = [0u8; 256];
-    block.copy_from_slice(&arena[from..from + 256]);
-    arena[to..to + 256].copy_from_slice(&block);
+    copy_by_bytes(arena, from, 256, &mut block, 0);
+    copy_by_bytes(&block, 0, 256, arena, to);
 }
 
-// In blocks, since `copy_within` alone takes 1.4 times as long from 8,000 bytes on. Where they move that far, the last may write some
-// bytes once more, and what is left over takes no loop. No `for`: i is needed behind the loop.
+// In blocks; where they move that far, the last may write some bytes once more, and what is left over takes no loop.
 fn move_down(arena: &mut [u8], from: usize, to: usize, n: usize)
     requires { (to ≤ from) × (from + n ≤ length arena.old) }
     ensures { arena.new ≡ moved from to n arena.old }
@@ -49,7 +72,7 @@ fn move_down(arena: &mut [u8], from: usize, to: usize, n: usize)
             return;
         }
     }
-    arena.copy_within(from + i..from + n, to + i);
+    move_down_by_bytes(arena, from + i, to + i, n - i);
 }
 
 fn move_up(arena: &mut [u8], from: usize, to: usize, n: usize)
@@ -67,7 +90,7 @@ fn move_up(arena: &mut [u8], from: usize, to: usize, n: usize)
             return;
         }
     }
-    arena.copy_within(from..from + i, to);
+    move_up_by_bytes(arena, from, to, i);
 }
 
 // From the end that is written over last; what stays where it is costs nothing.
@@ -83,11 +106,33 @@ pub fn move_bytes(arena: &mut [u8], from: usize, to: usize, n: usize)
     }
 }
 
+fn copy_by_bytes(src: &[u8], from: usize, n: usize, out: &mut [u8], at: usize)
+    requires { (from + n ≤ length src.now) × (at + n ≤ length out.old) }
+    ensures { out.new ≡ pasted at (part from n src.now) out.old }
+{
+    let mut i: usize = 0;
+    while i < n {
+        out[at + i] = src[from + i];
+        i += 1;
+    }
+}
+
+// Blocks of a known length, which the compiler makes straight code of; the last ends where all ends, and writes some bytes once more.
 pub fn copy_bytes(src: &[u8], from: usize, n: usize, out: &mut [u8], at: usize)
     requires { (from + n ≤ length src.now) × (at + n ≤ length out.old) }
     ensures { out.new ≡ pasted at (part from n src.now) out.old }
 {
-    out[at..at + n].copy_from_slice(&src[from..from + n]);
+    if n < 256 {
+        copy_by_bytes(src, from, n, out, at);
+        return;
+    }
+    let last = n - 256;
+    let mut i: usize = 0;
+    while i < last {
+        copy_by_bytes(src, from + i, 256, out, at + i);
+        i += 256;
+    }
+    copy_by_bytes(src, from + last, 256, out, at + last);
 }
 
 fn low(byte: u8, n: u64) -> u8

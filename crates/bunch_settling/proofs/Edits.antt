@@ -20,7 +20,8 @@ use Rattle.bunch_held.specs.Calls.{held_by}
 use Rattle.bunch_held.proofs.Holding.{columns, bytes_first, starts, starts_next}
 use Rattle.bunch_held.proofs.Edits.{packed, lays_removed, live_removed, bits_removed, bytes_removed, lays_changed, live_changed, bits_changed, bytes_changed, lays_inserted, live_inserted, bits_inserted, bytes_inserted}
 use Rattle.bunch_held.proofs.Moves.{packed_at, bytes_out, bytes_in}
-use Rattle.bunch_settling.specs.Settling.{Counts, Occupied, Changes, Starts, Is, settled, Lays}
+use Rattle.bunch_settling.specs.declared.inner.messages.Settled.{Settled}
+use Rattle.bunch_settling.specs.Settling.{Occupied, Changes, Starts, Is, settled, Lays}
 use Rattle.bunch_settling.proofs.Numbers.{numbers, free_numbers}
 
 bits_of : (h : Held) {p bytes : List ℕ} → Is h p bytes → h.message.bits ≡ bits_in_place p
@@ -43,18 +44,18 @@ shown from n bits arena payload output fits room e f =
     f ∙ rw e (A.pasted_laid n b q (laid b output) (sym (length_part from n arena fits)) (sym (laid_twice b output)) ∙ laid_over b q output (omega (arith, length_part from n arena fits)))
 
 -- counts that are a state's
-counts_are : (a : Accumulator) {active active' total total' : ℕ} {used : ℕ} {r : Counts} → r ≡ settled a active total used → active ≡ active' → total ≡ total'
+counts_are : (a : Accumulator) {active active' total total' : ℕ} {used : ℕ} {r : Settled} → r ≡ settled a active total used → active ≡ active' → total ≡ total'
     → r.accumulator ≡ (settled a active' total' used).accumulator
 counts_are a e f g = rw (e, f, g)
 
-used_of : (a : Accumulator) (active total used : ℕ) {n : ℕ} {r : Counts} → r ≡ settled a active total used → used ≡ n → r.used ≡ n
+used_of : (a : Accumulator) (active total used : ℕ) {n : ℕ} {r : Settled} → r ≡ settled a active total used → used ≡ n → r.used ≡ n
 used_of a active total used e f = rw (e, f)
 
 module _ (a : Accumulator) (m : HeldMemory) (used c i start : ℕ) where
   abbrev place : List ℕ
   place = get_or m.places i []
 
-  pub dropped : Occupied a m used c i start → (size : ℕ) {channels arena : List ℕ} {places : List (List ℕ)} {r : Counts} → size ≡ size_of place
+  pub dropped : Occupied a m used c i start → (size : ℕ) {channels arena : List ℕ} {places : List (List ℕ)} {r : Settled} → size ≡ size_of place
       → arena ≡ pasted start (part (start + size) (used - (start + size)) m.arena) m.arena
       → places ≡ laid (removed_at i (take a.active m.places)) m.places → channels ≡ laid (removed_at i (take a.active m.channels)) m.channels
       → r ≡ settled a (a.active - 1) (a.total_buffered_bits - bits_in_place place) (used - size)
@@ -70,7 +71,7 @@ module _ (a : Accumulator) (m : HeldMemory) (used c i start : ℕ) where
       }
 
   module _ (keep : ℕ) (p : List ℕ) (bits : ℕ) (payload : List ℕ) (g : Changes a m used c i start keep p bits payload) where
-    pub changed : (size n : ℕ) {moved arena : List ℕ} {places : List (List ℕ)} {r : Counts} → size ≡ size_of place → n ≡ bytes_of bits
+    pub changed : (size n : ℕ) {moved arena : List ℕ} {places : List (List ℕ)} {r : Settled} → size ≡ size_of place → n ≡ bytes_of bits
         → moved ≡ pasted (start + keep + n) (part (start + size) (used - (start + size)) m.arena) m.arena
         → arena ≡ pasted (start + keep) (payload_bytes bits payload) moved → places ≡ set m.places i p
         → r ≡ settled a a.active (a.total_buffered_bits - bits_in_place place + bits_in_place p) (used - size + (keep + n))
@@ -99,7 +100,7 @@ module _ (a : Accumulator) (m : HeldMemory) (used c i start : ℕ) where
         }
 
   module _ (p payload : List ℕ) (g : Starts a m used c i start p payload) where
-    pub started : (n : ℕ) {moved arena channels : List ℕ} {places : List (List ℕ)} {r : Counts} → n ≡ size_of p
+    pub started : (n : ℕ) {moved arena channels : List ℕ} {places : List (List ℕ)} {r : Settled} → n ≡ size_of p
         → moved ≡ pasted (start + n) (part start (used - start) m.arena) m.arena → arena ≡ pasted start (payload_bytes (bits_in_place p) payload) moved
         → places ≡ laid (inserted_at i p (take a.active m.places)) m.places → channels ≡ laid (inserted_at i c (take a.active m.channels)) m.channels
         → r ≡ settled a (a.active + 1) (a.total_buffered_bits + bits_in_place p) (used + n)

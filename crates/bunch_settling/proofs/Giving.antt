@@ -22,7 +22,8 @@ use Rattle.bunch_held.proofs.Soundness.{stands, passes}
 use Rattle.bunch_held.proofs.Holding.{message_at, length_held, columns, message_at_is, same_memory, same_counts}
 use Rattle.bunch_held.proofs.Laying.{laid_stands, state_back}
 use Rattle.bunch_held.proofs.Edits.{place_live, without_same}
-use Rattle.bunch_settling.specs.Settling.{Counts, Using, Lays}
+use Rattle.bunch_settling.specs.declared.inner.messages.Settled.{Settled}
+use Rattle.bunch_settling.specs.Settling.{Using, Lays}
 use Rattle.bunch_settling.specs.Giving.{given_reply, Gives}
 
 set_same : {A : Type 0} (d : A) (i : ℕ) (l : List A) {x : A} → i < length l → get_or l i d ≡ x → set l i x ≡ l
@@ -53,7 +54,7 @@ module _ (a : Accumulator) (m : HeldMemory) (used : ℕ) (u : Using a m used) (c
   unchanged x e f same =
       record { reply_is = rw (e, f, same, same_memory a m u.stands, same_counts a m u.stands) refl; goes_on = u }
 
-  pub changes : (x : Local) {answer : BunchAnswer} {output : List ℕ} {r : Counts} {after : HeldMemory} → answer ≡ x.answer → output ≡ x.output
+  pub changes : (x : Local) {answer : BunchAnswer} {output : List ℕ} {r : Settled} {after : HeldMemory} → answer ≡ x.answer → output ≡ x.output
       → Kept a (holding c x.held (held_by a m)) → Lays a m (holding c x.held (held_by a m)) r after → Gives a m c x answer r after output
   changes x e f k l =
       let s = holding c x.held (held_by a m) in
@@ -74,13 +75,13 @@ refuses a m {e} q = go (memory_sound a m) refl q
 
 -- The call is its inner form after the test.
 module _ (a : Accumulator) (m : HeldMemory) (c : ℕ) (act : Act) (output : List ℕ) where
-  pub goes : {used : ℕ} → Using a m used → {answer : BunchAnswer} {r : Counts} {m' : HeldMemory} {out : List ℕ} → Gives a m c (local (limits_of a) (held_by a m) c act output) answer r m' out
+  pub goes : {used : ℕ} → Using a m used → {answer : BunchAnswer} {r : Settled} {m' : HeldMemory} {out : List ℕ} → Gives a m c (local (limits_of a) (held_by a m) c act output) answer r m' out
       → given_reply answer r m' out ≡ called a m c act output
   unfolding called state_after
   goes u g = g.reply_is ∙ rw (passes a m u.stands) refl
 
   -- and so is the reply of memory that was lent on
-  pub goes_back : {used : ℕ} → Using a m used → {answer : BunchAnswer} {r : Counts} {channels arena channels' arena' out : List ℕ} {places places' : List (List ℕ)} → channels' ≡ channels → places' ≡ places → arena' ≡ arena
+  pub goes_back : {used : ℕ} → Using a m used → {answer : BunchAnswer} {r : Settled} {channels arena channels' arena' out : List ℕ} {places places' : List (List ℕ)} → channels' ≡ channels → places' ≡ places → arena' ≡ arena
       → Gives a m c (local (limits_of a) (held_by a m) c act output) answer r (held_memory channels places arena) out → given_reply answer r (held_memory channels' places' arena') out ≡ called a m c act output
   goes_back u e f k g = rw (e, f, k) (goes u g)
 

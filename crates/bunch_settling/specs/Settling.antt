@@ -11,22 +11,19 @@ use Rattle.bunch_held.specs.Memory.{place_words, bits_in_place, size_of, size_al
 use Rattle.bunch_held.specs.State.{Stands}
 use Rattle.bunch_held.specs.Calls.{held_by, counting}
 use Rattle.bunch_settling.specs.declared.inner.messages.Settled.{Settled}
+use Rattle.bunch_settling.specs.declared.inner.messages.SettledMemory.{SettledMemory}
 
-abbrev pub settled_memory : Settled → HeldMemory
+abbrev pub settled_memory : SettledMemory → HeldMemory
 settled_memory s = held_memory s.channels.now s.places.now s.arena.now
 
 -- the same slices are lent, whatever they hold
-pub record SameSlices (s t : Settled) : Type 0 where
+pub record SameSlices (s t : SettledMemory) : Type 0 where
   pub channels : t.channels.ghost_name ≡ s.channels.ghost_name
   pub places : t.places.ghost_name ≡ s.places.ghost_name
   pub arena : t.arena.ghost_name ≡ s.arena.ghost_name
 
 -- what is counted beside the memory
-pub record Counts : Type 0 where
-  pub accumulator : Accumulator
-  pub used : ℕ
-
-abbrev pub counts_of : Settled → Counts
+abbrev pub counts_of : SettledMemory → Settled
 counts_of s = record { accumulator = s.accumulator; used = s.used }
 
 -- sound memory, and how many bytes of its arena are used
@@ -80,12 +77,12 @@ pub record Is (h : Held) (p bytes : List ℕ) : Type 0 where
   pub place_is : place_words h ≡ p
   pub bytes_are : h.message.bytes ≡ bytes
 
-abbrev pub settled : Accumulator → ℕ → ℕ → ℕ → Counts
+abbrev pub settled : Accumulator → ℕ → ℕ → ℕ → Settled
 settled a active total used =
     record { accumulator = accumulator_of a.max_active a.max_buffered_bits active total; used = used }
 
 -- the state s laid in memory m, with its counts
-pub record Lays (a : Accumulator) (m : HeldMemory) (s : State) (r : Counts) (after : HeldMemory) : Type 0 where
+pub record Lays (a : Accumulator) (m : HeldMemory) (s : State) (r : Settled) (after : HeldMemory) : Type 0 where
   pub memory_is : after ≡ laid_in s m
   pub counts : r.accumulator ≡ counting a s
   pub used_is : r.used ≡ length (bytes_all s)

@@ -57,13 +57,16 @@ module _ (r s : Walk) (u v : Window) (p q : List (List ℕ)) (e : of_walk r u p 
   counts : r.count ≡ s.count
   counts = ap (λ (x : W.Walked). x.count) e
 
-  pub walk_determined : r ≡ s
-  walk_determined =
-      ap (λ (x : Result Stop FieldError × Window). record { stop = x.0; count = r.count }) stops ∙ ap (λ (n : ℕ). record { stop = s.stop; count = n }) counts
-
   -- where the walk leaves the reader
   pub reader_determined : u ≡ v
   reader_determined = ap (λ (x : Result Stop FieldError × Window). x.1) stops
+
+  -- the answer, and that place with it
+  pub walk_determined : (r ≡ s) × (u ≡ v)
+  walk_determined = (
+    ap (λ (x : Result Stop FieldError × Window). record { stop = x.0; count = r.count }) stops ∙ ap (λ (n : ℕ). record { stop = s.stop; count = n }) counts,
+    reader_determined,
+  )
 
   pub places_determined : p ≡ q
   places_determined = ap (λ (x : W.Walked). x.places) e

@@ -9,7 +9,7 @@ use Rattle.field_walking.specs.declared.FieldRecord.{FieldRecord}
 use Rattle.field_records.specs.Walks.{ListedRecords, of_lists}
 
 module _ (r s : Walk) (u v : Window) (rs rs' : List FieldRecord) (ps ps' : List (List ℕ)) (e : of_lists r u rs ps ≡ of_lists s v rs' ps') where
-  pub answer_determined : r ≡ s
+  pub answer_determined : (r ≡ s) × (u ≡ v)
   answer_determined = walk_determined r s u v ps ps' (ap (λ (x : ListedRecords). x.walked) e)
 
   -- where the walk leaves the reader

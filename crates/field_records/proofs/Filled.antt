@@ -3,7 +3,7 @@ use mathlib.Core.Path.{◌≡◌, refl, sym, ◌∙◌, ap}
 use mathlib.Core.List.{List, [], ◌∷◌, ◌++◌, map, map-append}
 use Prim.Native.Nat.{ℕ, suc, ◌≤◌, ◌<◌}
 use native.Mathlib.Omega.{arith}
-use lib.ListN.{length, get_or, set, take, drop, length-map}
+use lib.ListN.{length, get_or, set, take, drop, length-append, length-drop, length-map}
 use lib.Seq.{length-take-le, take-suc, drop-cons, set_at, append_snoc}
 use Rattle.bitio_window.specs.declared.Window.{Window}
 use Rattle.field_walking.specs.declared.Walk.{Walk}
@@ -22,6 +22,10 @@ module _ (ps : List (List ℕ)) (rs : List FieldRecord) where
   module _ (n : ℕ) (h : n ≤ length ps) where
     front : length (map record_of (take n ps)) ≡ n
     front = length-map (take n ps) record_of ∙ length-take-le n ps h
+
+    pub length_filled : n ≤ length rs → length (filled n ps rs) ≡ length rs
+    unfolding filled
+    length_filled f = simp (length-append, length-drop, front) (omega arith)
 
   pub filled_next : (i : ℕ) → i < length ps → i < length rs → set (filled i ps rs) i (record_of (get_or ps i [])) ≡ filled (suc i) ps rs
   unfolding filled

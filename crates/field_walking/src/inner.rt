@@ -68,6 +68,12 @@ fn call(bytes: &[u8], w: &mut Window, max: u32) -> Result<Step, BitError>
     counted(bytes, w, handle)
 }
 
+fn at_least_two(count: u32) -> u32
+    ensures { (result ≡ max count 2) × (0 < result) }
+{
+    count.max(2)
+}
+
 fn class_net_cache(bytes: &[u8], w: &mut Window, count: u32) -> Result<Step, BitError>
     requires { Sound bytes.now w.old }
     ensures { (answer_of looked result w.new ≡ class_net_cache count bytes.now w.old) × Sound bytes.now w.new }
@@ -75,7 +81,7 @@ fn class_net_cache(bytes: &[u8], w: &mut Window, count: u32) -> Result<Step, Bit
     if w.left() == 0 {
         return Ok(Step::Ends);
     }
-    call(bytes, w, count.max(2))
+    call(bytes, w, at_least_two(count))
 }
 
 // Not a closure for each kind: the walk's clause would ask of it all that the definition `look` says, and that it moves on.

@@ -1,7 +1,6 @@
 -- What is known of a write by what it comes to.
 use mathlib.Core.Path.{◌≡◌, refl, sym, ap, ◌∙◌}
-use Rattle.std.specs.Prelude.{ℕ, Bool, true, false, Option, Some, None, if◌then◌else◌, ◌==◌, Result, Ok, Err}
-use Rattle.listing.specs.declared.inner.moved.Failure.{Failure}
+use Rattle.std.specs.Prelude.{ℕ, Bool, true, false, Option, None, if◌then◌else◌, ◌==◌, Result, Ok, Err}
 use Rattle.listing.specs.Calls.{Transfer, bytes_moved, is_eintr, is_interrupted, after_write}
 
 -- where it goes on, so many bytes moved

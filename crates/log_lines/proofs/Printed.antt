@@ -3,7 +3,10 @@ use mathlib.Core.Path.{◌≡◌, ap, ◌∙◌}
 use mathlib.Core.List.{List, [], ◌∷◌, ◌++◌}
 use Prim.Native.Nat.{ℕ, suc, ◌+◌, ◌%◌, ◌/◌, ◌^◌, ◌≤◌, ◌<◌}
 use native.Mathlib.Omega.{arith}
-use lib.IntN.{ℤ, pos, negsuc}
+use lib.IntN.{ℤ, pos, negsuc, nat_abs}
+use lib.Signed.{lt_z, le_z}
+use mathlib.Core.Bool.{true}
+use borrow.Author.Differences.{lt-true}
 use mir.Syntax.{w32}
 use mir.Val.{SFits}
 use Rattle.std.specs.Fmt.{decimal as printed, signed_decimal as printed_signed}
@@ -11,7 +14,7 @@ use Rattle.std.proofs.lemmas.Fmt.{decimal_by_steps}
 use Rattle.log_lines.specs.Decimal.{last_digit, decimal, decimal_signed}
 use Rattle.log_lines.proofs.Digits.{no_digits, one_more}
 
-one : (n : ℕ) → n < 10 → decimal n ≡ (48 + n) ∷ []
+pub one : (n : ℕ) → n < 10 → decimal n ≡ (48 + n) ∷ []
 unfolding decimal
 one n h =
     let last : last_digit n ≡ 48 + n = omega arith in
@@ -28,3 +31,9 @@ pub as_printed_signed : (x : ℤ) → SFits w32 x → decimal_signed x ≡ print
 unfolding decimal_signed
 as_printed_signed (pos n) f = let h : n < 2 ^ 31 = f.sfits in as_printed n (omega arith)
 as_printed_signed (negsuc n) f = let h : n < 2 ^ 31 = f.sfits in ap (λ (l : List ℕ). 45 ∷ l) (as_printed (suc n) (omega arith))
+
+-- a signed number of one digit
+pub one_signed : (x : ℤ) → le_z (pos 0) x ≡ true → lt_z x (pos 10) ≡ true → decimal_signed x ≡ (48 + nat_abs x) ∷ []
+unfolding decimal_signed
+one_signed (pos n) low high = one n (omega (arith, lt-true (pos n) (pos 10) high))
+one_signed (negsuc n) low high = cc

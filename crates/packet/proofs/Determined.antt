@@ -65,6 +65,14 @@ next_again : (r : Answered BunchRead PacketError) (a : PacketBit) (v : RawPacket
 next_again (Ok b) a v m = refl
 next_again (Err e) a v m = refl
 
+sequences_again : (r : Answered BunchRead PacketError) (a : PacketBit) (v : RawPacketReader) (m : ReaderMemory) → (of_answer r a v m).live_sequences ≡ v.live_sequences
+sequences_again (Ok b) a v m = refl
+sequences_again (Err e) a v m = refl
+
+partials_again : (r : Answered BunchRead PacketError) (a : PacketBit) (v : RawPacketReader) (m : ReaderMemory) → (of_answer r a v m).live_partials ≡ v.live_partials
+partials_again (Ok b) a v m = refl
+partials_again (Err e) a v m = refl
+
 reader_again : (r : Answered BunchRead PacketError) (a : PacketBit) (v : RawPacketReader) (m : ReaderMemory)
     → reader_of v.max_channels (of_answer r a v m).live_sequences (of_answer r a v m).live_partials ≡ v
 reader_again (Ok b) a v m = refl
@@ -75,11 +83,17 @@ memory_again (Ok b) a v m = refl
 memory_again (Err e) a v m = refl
 
 module _ (r s : Answered BunchRead PacketError) (a b : PacketBit) (v w : RawPacketReader) (m n : ReaderMemory) (e : of_answer r a v m ≡ of_answer s b w n) where
-  pub read_determined : r ≡ s
-  read_determined = sym (read_again r a v m) ∙ ap again e ∙ read_again s b w n
-
   pub next_determined : a ≡ b
   next_determined = sym (next_again r a v m) ∙ ap (λ (x : ReadReply). record { 0 = x.next }) e ∙ next_again s b w n
+
+  -- the answer, where the call leaves the cursor, and how many places of each table then count
+  pub read_determined : (r ≡ s) × (a ≡ b) × (v.live_sequences ≡ w.live_sequences) × (v.live_partials ≡ w.live_partials)
+  read_determined = (
+    sym (read_again r a v m) ∙ ap again e ∙ read_again s b w n,
+    next_determined,
+    sym (sequences_again r a v m) ∙ ap (λ (x : ReadReply). x.live_sequences) e ∙ sequences_again s b w n,
+    sym (partials_again r a v m) ∙ ap (λ (x : ReadReply). x.live_partials) e ∙ partials_again s b w n,
+  )
 
   pub reader_determined : v.max_channels ≡ w.max_channels → v ≡ w
   reader_determined l =

@@ -92,14 +92,11 @@ pub fn read_fields(bytes: &[u8], w: &mut Window) -> Result<BunchFields, BitError
     requires { Sound bytes.now w.old }
     ensures { (answer result w.new ≡ fields bytes.now w.old) × Sound bytes.now w.new }
 {
-    let mut rest = quick::Rest {
-        word: words::peek(bytes, w.packet_bit()),
-        used: 0,
-    };
-    let quick = quick::fields_of(&mut rest);
+    let quick = quick::fields_of(words::peek(bytes, w.packet_bit()));
+    let rest = quick.rest;
     if (rest.used <= 57) & (rest.used <= w.left()) {
         w.advance(rest.used);
-        return Ok(quick);
+        return Ok(quick.fields);
     }
     // A copy, so that only the row keeps its window in memory.
     let mut at = *w;

@@ -25,12 +25,16 @@ pub fn copy_bits(bytes: &[u8], at: PacketBit, count: u64, target: &mut [u8])
         × (length bytes.now ≤ largest_data) }
     ensures { target.new ≡ copied target.old bytes.now at.0 count }
 {
-    let whole = (count / 64) as usize;
-    for k in 0..whole {
-        let word = words::word_at(bytes, PacketBit(at.0 + 64 * k as u64));
-        store(target, 8 * k, word, 8);
+    // By its byte and the bits left: counted in words, LLVM saw no bytes that follow each other, and a copy of 500 kB from a byte's first
+    // bit on took 1.5 times as long.
+    let mut i: usize = 0;
+    let mut left = count;
+    while left >= 64 {
+        let word = words::word_at(bytes, PacketBit(at.0 + 8 * i as u64));
+        store(target, i, word, 8);
+        i += 8;
+        left -= 64;
     }
-    let left = count % 64;
-    let last = words::bits_at(bytes, PacketBit(at.0 + (count - left)), left);
-    store(target, 8 * whole, last, left.div_ceil(8) as usize);
+    let last = words::bits_at(bytes, PacketBit(at.0 + 8 * i as u64), left);
+    store(target, i, last, left.div_ceil(8) as usize);
 }

@@ -88,7 +88,10 @@ pub fn serialized(bytes: &[u8], w: &mut Window, max: u32) -> Result<u32, BitErro
     if is_whole(value, top, max) {
         return Ok(value as u32);
     }
-    w.need(1)?;
+    // `need`, written out: where a cut top bit is told, and where the reader is left, is not where the number began.
+    if w.left() < 1 {
+        return Err(w.too_few_bits(1));
+    }
     w.advance(1);
     Ok((value + only_if((word >> n) % 2 == 1, top)) as u32)
 }

@@ -24,7 +24,7 @@ use bunch_judging::{Displacement, Effect, Fate, PartialBunchResult, Standing};
 use bunch_places::Place;
 use bunch_places::inner::put_payload;
 use bunch_settling::inner::fragments::{Weighed, bits_if, sequence_of, standing_of, weigh};
-use bunch_settling::inner::messages::{Settled, words_of};
+use bunch_settling::inner::messages::{SettledMemory, words_of};
 use types::{MAX_PAYLOAD_BITS, RawBunchHeader};
 use words::HeaderWords;
 
@@ -33,7 +33,7 @@ fn displaced_at(
     e: Effect,
     met: Fate,
     held: Option<Standing>,
-    s: &Settled<'_>,
+    s: &SettledMemory<'_>,
     i: usize,
     header: RawBunchHeader,
     bits: u64,
@@ -100,7 +100,7 @@ fn meet_nothing(a: Accumulator, bits: u64) -> Meeting
     }
 }
 
-fn meet(s: &Settled<'_>, slot: Result<usize, usize>, initial: bool, bits: u64) -> Meeting
+fn meet(s: &SettledMemory<'_>, slot: Result<usize, usize>, initial: bool, bits: u64) -> Meeting
     requires { Meetable s.now.accumulator s.now.places.now slot bits }
     ensures { Meets s.now.accumulator s.now.places.now slot initial bits result }
 {
@@ -113,7 +113,7 @@ fn meet(s: &Settled<'_>, slot: Result<usize, usize>, initial: bool, bits: u64) -
 
 // To the channel's message at place i: what it met there, how that was weighed, and the result.
 fn add_held(
-    s: &mut Settled<'_>,
+    s: &mut SettledMemory<'_>,
     ch_index: u32,
     i: usize,
     met: Meeting,
@@ -160,7 +160,7 @@ fn add_held(
 
 // To a channel that holds nothing, and would stand at place i.
 fn add_free(
-    s: &mut Settled<'_>,
+    s: &mut SettledMemory<'_>,
     ch_index: u32,
     i: usize,
     met: Meeting,
@@ -206,7 +206,7 @@ fn add_free(
 
 // The payload's tests, then by what the channel holds.
 pub fn add_fragment(
-    s: &mut Settled<'_>,
+    s: &mut SettledMemory<'_>,
     ch_index: u32,
     header: RawBunchHeader,
     payload: &[u8],

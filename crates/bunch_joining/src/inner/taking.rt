@@ -12,7 +12,7 @@ use crate::PreservedPartial;
 use bunch_held::BunchError;
 use bunch_held::inner::bytes_of;
 use bunch_places::Place;
-use bunch_settling::inner::messages::{Settled, words_of};
+use bunch_settling::inner::messages::{SettledMemory, words_of};
 use types::RawBunchHeader;
 use words::header_of;
 
@@ -24,7 +24,7 @@ fn header_in(p: Place) -> RawBunchHeader
 
 // The message at place i, finished or not.
 fn hand_out(
-    s: &mut Settled<'_>,
+    s: &mut SettledMemory<'_>,
     ch_index: u32,
     i: usize,
     output: &mut [u8],
@@ -53,7 +53,7 @@ fn hand_out(
 }
 
 pub fn retire_channel(
-    s: &mut Settled<'_>,
+    s: &mut SettledMemory<'_>,
     ch_index: u32,
     output: &mut [u8],
 ) -> Result<Option<PreservedPartial>, BunchError>
@@ -71,7 +71,7 @@ pub fn retire_channel(
 
 // Only a finished message is taken.
 pub fn take_completed(
-    s: &mut Settled<'_>,
+    s: &mut SettledMemory<'_>,
     ch_index: u32,
     output: &mut [u8],
 ) -> Result<Option<PreservedPartial>, BunchError>

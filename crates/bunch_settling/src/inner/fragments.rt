@@ -11,7 +11,7 @@ ghost use Rattle.bunch_held.specs.Calls.{held_by};
 ghost use Rattle.bunch_settling.specs.Settling.{Lays, SameSlices, counts_of, settled_memory};
 ghost use Rattle.bunch_settling.specs.Fragments.{started_words, joined_words, words_after, held_in_place, left_by, Joinable, Holds, Lacks};
 
-use crate::inner::messages::Settled;
+use crate::inner::messages::SettledMemory;
 use bitio_bits::inner::signed;
 use bunch_held::inner::bytes_of;
 use bunch_judging::effects::effect;
@@ -144,7 +144,7 @@ pub fn weigh(
     }
 }
 
-impl Settled<'_> {
+impl SettledMemory<'_> {
     // The channel's message stands at place i; h is the fragment's header after the sequence test, and `sequence` its word.
     pub fn settle_held(
         &mut self,

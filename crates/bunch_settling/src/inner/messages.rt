@@ -4,7 +4,7 @@ ghost use Rattle.types.specs.Types.{most_active_partials, most_buffered_bits};
 ghost use Rattle.tables.specs.Tables.{put, without, slot_of};
 ghost use Rattle.bunch_places.specs.Bytes.{pasted, part, bytes_of, payload_bytes};
 ghost use Rattle.bunch_judging.specs.Held.{Held};
-ghost use Rattle.bunch_held.specs.Memory.{HeldMemory, bits_in_place, bits_all, size_all};
+ghost use Rattle.bunch_held.specs.Memory.{HeldMemory, held_memory, bits_in_place, bits_all, size_all};
 ghost use Rattle.bunch_held.specs.Calls.{held_by};
 ghost use Rattle.bunch_settling.specs.Settling.{Using, Occupied, Bytes, Changes, Starts, Is, Lays, SameSlices, counts_of, settled_memory};
 
@@ -15,9 +15,16 @@ use bunch_places::inner::{copy_bytes, insert_place, move_bytes, put_payload, rem
 use tables::inner;
 use words::HeaderWords;
 
-// What is held in lent memory that was tested, and how many bytes of its arena are used.
+// What is held, and how many bytes of the arena are used.
+#[derive(Clone, Copy)]
+pub struct Settled {
+    pub accumulator: Accumulator,
+    pub used: usize,
+}
+
+// The same with the lent memory, which was tested. The counts stand in it one by one: `Settled` is what a caller keeps of them.
 #[derive(Drop)]
-pub struct Settled<'a> {
+pub struct SettledMemory<'a> {
     pub accumulator: Accumulator,
     pub used: usize,
     pub channels: &'a mut [u32],
@@ -25,7 +32,16 @@ pub struct Settled<'a> {
     pub arena: &'a mut [u8],
 }
 
-impl Settled<'_> {
+impl SettledMemory<'_> {
+    pub fn counts(&self) -> Settled
+        ensures { result ≡ counts_of self.now }
+    {
+        Settled {
+            accumulator: self.accumulator,
+            used: self.used,
+        }
+    }
+
     // Where the channel's message stands, or would stand.
     pub fn find(&self, ch_index: u32) -> Result<usize, usize>
         requires { Using self.now.accumulator (settled_memory self.now) self.now.used }
@@ -99,16 +115,15 @@ impl Settled<'_> {
     )
         requires { Bytes self.old.accumulator self.old.arena.now self.old.used start before keep bits payload.now after }
         ensures same { SameSlices self.old self.new }
+        ensures others { (self.new.channels.now ≡ self.old.channels.now) × (self.new.places.now ≡ self.old.places.now) }
         ensures lays { let a = self.old.accumulator in
             (m : HeldMemory) (c i : ℕ) (p : List ℕ)
-            → m.channels ≡ self.old.channels.now
-            → set m.places i p ≡ self.old.places.now
             → m.arena ≡ self.old.arena.now
             → before ≡ bits_in_place (get_or m.places i [])
             → after ≡ bits_in_place p
             → Changes a m self.old.used c i start keep p bits payload.now
             → (h : Held) → Is h p (part start keep m.arena ++ payload_bytes bits payload.now)
-            → Lays a m (put c h (held_by a m)) (counts_of self.new) (settled_memory self.new) }
+            → Lays a m (put c h (held_by a m)) (counts_of self.new) (held_memory m.channels (set m.places i p) self.new.arena.now) }
     {
         let used = self.used;
         let size = bytes_of(before);

@@ -84,5 +84,9 @@ pub fn after_read(moved: Result<usize, Failure>, left: usize, start: u64) -> Opt
 pub fn is_over(outcome: Option<Outcome>) -> bool
     ensures { result ≡ is_over outcome }
 {
-    outcome.is_some()
+    match outcome {
+        None => false,
+        Some(Outcome::WriteFailed { at: _, error: _ }) => true,
+        Some(_) => true,
+    }
 }

@@ -94,7 +94,6 @@ fn records<R: Read, W: Write>(
                 Err(failed) => {
                     used = 0;
                     outcome = Some(failed);
-                    break;
                 }
             }
         } else {
@@ -104,9 +103,9 @@ fn records<R: Read, W: Write>(
             at = 0;
             let moved = refilled.moved;
             outcome = outcome::after_read(moved, left, part.before);
-            if outcome::is_over(outcome) {
-                break;
-            }
+        }
+        if outcome::is_over(outcome) {
+            break;
         }
     }
     Listed {

@@ -11,7 +11,7 @@ use crate::inner::outcome::Outcome;
 use crate::inner::output;
 use crate::inner::output::Unwritten;
 use log_lines::inner::lines::{cut_line, version_line};
-use log_lines::inner::pieces::{byte, number, text};
+use log_lines::inner::pieces::{byte, number};
 use std::io::Write;
 
 pub fn last_line(out: &mut [u8], at: usize, outcome: Option<Outcome>) -> usize
@@ -30,20 +30,30 @@ pub fn last_line(out: &mut [u8], at: usize, outcome: Option<Outcome>) -> usize
     }
 }
 
-fn one_number(out: &mut [u8], word: &[u8], n: u64) -> usize
-    requires { (length word.now ≤ 12) × (line_room ≤ length out.old) }
-    ensures { Put 34 out.old 0 (word.now ++ spaced_fields (decimal n ∷ [])) out.new result }
+fn word(out: &mut [u8], text: &[u8]) -> usize
+    requires { length text.now ≤ length out.old }
+    ensures { Put (length text.now) out.old 0 text.now out.new result }
 {
-    let behind = text(out, 0, word);
+    for i in 0..text.len() {
+        out[i] = text[i];
+    }
+    text.len()
+}
+
+fn one_number(out: &mut [u8], text: &[u8], n: u64) -> usize
+    requires { (length text.now ≤ 12) × (line_room ≤ length out.old) }
+    ensures { Put 34 out.old 0 (text.now ++ spaced_fields (decimal n ∷ [])) out.new result }
+{
+    let behind = word(out, text);
     let only = number(out, behind, n);
     byte(out, only, b'\n')
 }
 
-fn two_numbers(out: &mut [u8], word: &[u8], n: u64, m: u64) -> usize
-    requires { (length word.now ≤ 12) × (line_room ≤ length out.old) }
-    ensures { Put 55 out.old 0 (word.now ++ spaced_fields (decimal n ∷ decimal m ∷ [])) out.new result }
+fn two_numbers(out: &mut [u8], text: &[u8], n: u64, m: u64) -> usize
+    requires { (length text.now ≤ 12) × (line_room ≤ length out.old) }
+    ensures { Put 55 out.old 0 (text.now ++ spaced_fields (decimal n ∷ decimal m ∷ [])) out.new result }
 {
-    let first = text(out, 0, word);
+    let first = word(out, text);
     let second = number(out, first, n);
     let third = number(out, second, m);
     byte(out, third, b'\n')

@@ -22,12 +22,23 @@ pub fn text(out: &mut [u8], at: usize, bytes: &[u8]) -> usize
     end
 }
 
+// A number of one digit takes no buffer: most numbers of a listing have one.
+fn printed(out: &mut [u8], at: usize, n: u64) -> usize
+    requires { at + 20 ≤ length out.old }
+    ensures { Put 20 out.old at (decimal n) out.new result }
+{
+    if n < 10 {
+        return byte(out, at, b'0' + n as u8);
+    }
+    text(out, at, Buffer::new().format(n).as_bytes())
+}
+
 pub fn number(out: &mut [u8], at: usize, n: u64) -> usize
     requires { at + 21 ≤ length out.old }
     ensures { Put 21 out.old at (32 ∷ decimal n) out.new result }
 {
     let digits = byte(out, at, b' ');
-    text(out, digits, Buffer::new().format(n).as_bytes())
+    printed(out, digits, n)
 }
 
 pub fn signed_number(out: &mut [u8], at: usize, n: i32) -> usize
@@ -35,5 +46,8 @@ pub fn signed_number(out: &mut [u8], at: usize, n: i32) -> usize
     ensures { Put 12 out.old at (32 ∷ decimal_signed n) out.new result }
 {
     let sign = byte(out, at, b' ');
+    if 0 <= n && n < 10 {
+        return byte(out, sign, b'0' + n as u8);
+    }
     text(out, sign, Buffer::new().format(n).as_bytes())
 }

@@ -63,10 +63,17 @@ impl Rest {
     }
 }
 
-pub fn fields_of(rest: &mut Rest) -> BunchFields
-    requires { rest.old.used ≡ 0 }
-    ensures { Reads fields rest.old result rest.new }
+// The fields of a word, with what is left of it.
+#[derive(Clone, Copy, Debug, PartialEq, Eq)]
+pub struct QuickFields {
+    pub fields: BunchFields,
+    pub rest: Rest,
+}
+
+pub fn fields_of(word: u64) -> QuickFields
+    ensures { Reads fields (record { word = word; used = 0 }) result.fields result.rest }
 {
+    let mut rest = Rest { word, used: 0 };
     let control = rest.flag(true);
     let b_open = rest.flag(control);
     let b_close = rest.flag(control);
@@ -84,7 +91,7 @@ pub fn fields_of(rest: &mut Rest) -> BunchFields
     let _hardcoded = rest.flag(named);
     let _name = rest.packed(named);
     let payload_bit_count = rest.serialized(true, MAX_PACKET_SIZE_BITS);
-    BunchFields {
+    let fields = BunchFields {
         b_open,
         b_close,
         close_reason,
@@ -97,5 +104,6 @@ pub fn fields_of(rest: &mut Rest) -> BunchFields
         b_partial_initial,
         b_partial_final,
         payload_bit_count,
-    }
+    };
+    QuickFields { fields, rest }
 }

@@ -22,9 +22,10 @@ pub returns : goal.returns
 returns c =
     let l = c.loop-k in
     let x = c.args in
-    ended l.s.accumulator
+    rw c.counts-left.ensures
+    (ended l.s.accumulator
     (turns_end (going x.payloads.now x.headers.now) (length x.headers.now) l.k (run l.s.accumulator (settled_memory l.s) l.output l.sum) l.invariant.0 (search rules))
-    l.invariant.1.0 (search rules) (search rules) (search rules)
+    l.invariant.1.0 (search rules) (search rules) (search rules))
 
 pub shape_of-output : goal.shape_of-output
 shape_of-output c = c.loop-k.invariant.1.1.1

@@ -1,10 +1,11 @@
 -- Past the test the inner form gives the reply.
-use mathlib.Core.Path.{sym, ◌∙◌}
+use mathlib.Core.Path.{◌≡◌, sym, subst, ◌∙◌}
 use borrow.Author.Rules.{rules}
 use Rattle.bunch_held.specs.Memory.{memory_of}
+use Rattle.std.specs.Prelude.{Err}
+use Rattle.bunch_held.specs.Calls.{tested}
 use Rattle.bunch_held.specs.Steps.{taking, locally, local}
-use Rattle.bunch_settling.proofs.Giving.{goes_back, ten, passed}
-use Rattle.std.proofs.lemmas.Result.{err_from_is_err_and}
+use Rattle.bunch_settling.proofs.Giving.{goes_back, refuses, ten, passed}
 use Rattle.bunch.proofs.calls.take_completed.Goals as goal
 
 pub returns-clause-reply : goal.returns-clause-reply
@@ -12,14 +13,15 @@ unfolding locally local
 returns-clause-reply c =
     let a = c.args in
     let m = memory_of a.memory.now in
-    goes_back a.a.now m a.ch_index taking a.output.now (passed _ _ _ (sym c.test.ensures ∙ c.in_ok-used.was)) (search rules) (search rules) (search rules) c.take_completed-answer.ensures.gives
+    goes_back a.a.now m a.ch_index taking a.output.now (passed _ _ _ (sym c.test.ensures ∙ c.in-Ok.is)) (search rules) (search rules) (search rules) c.take_completed-answer.ensures.gives
 
-pub returns-in_err-used-clause-reply : goal.returns-in_err-used-clause-reply
-returns-in_err-used-clause-reply c =
+pub returns-in_default-clause-reply : goal.returns-in_default-clause-reply
+returns-in_default-clause-reply c =
     let a = c.args in
     let m = memory_of a.memory.now in
-    let e = err_from_is_err_and c.from_residual.result c.from_residual.ensures.1 in
-    rw (e.1, e.2) (ten a.a.now m a.ch_index taking a.output.now (sym c.test.ensures ∙ c.in_err-used.was))
+    let r = sym c.test.ensures ∙ c.in_default.is in
+    let q = subst (λ e. tested a.a.now m ≡ Err e) (refuses a.a.now m r).1 r in
+    rw c.unsound.ensures (ten a.a.now m a.ch_index taking a.output.now q)
 
 pub take_completed-answer-requires : goal.take_completed-answer-requires
-take_completed-answer-requires c = passed _ _ _ (sym c.test.ensures ∙ c.in_ok-used.was)
+take_completed-answer-requires c = passed _ _ _ (sym c.test.ensures ∙ c.in-Ok.is)

@@ -1,15 +1,9 @@
--- The block holds the bytes whole.
-use mathlib.Core.Path.{◌≡◌}
-use Prim.Native.Nat.{◌+◌, ◌-◌}
+-- Both copies are `copy_by_bytes`': the block holds the bytes whole.
 use native.Mathlib.Omega.{arith}
-use Rattle.bunch_places.specs.Bytes.{part}
-use Rattle.bunch_places.proofs.Pastes.{put_back, length_part}
+use borrow.Author.Rules.{rules}
+use Rattle.bunch_places.proofs.Blocks.{by_block}
 use Rattle.bunch_places.proofs.inner.move_block.Goals as goal
 
 pub returns : goal.returns
 returns c =
-    let a = c.args in
-    let e : a.to + 256 - a.to ≡ 256 = omega arith in
-    let f : a.from + 256 - a.from ≡ 256 = omega arith in
-    rw (c.copy_from_slice-2.ensures.after, c.copy_from_slice.ensures.after, e, f)
-    (put_back a.to 256 (part a.from 256 a.arena.now) a.arena.now (length_part a.from 256 a.arena.now (omega arith)))
+    by_block c.args.from c.args.to 256 c.args.arena.now _ (search rules) (omega arith) c.copy_by_bytes.ensures c.copy_by_bytes-2.ensures

@@ -2,7 +2,7 @@
 use mathlib.Core.Path.{refl, ◌∙◌}
 use Prim.Native.Nat.{◌+◌, ◌-◌}
 use native.Mathlib.Omega.{arith}
-use Rattle.bunch_places.proofs.Pastes.{moves_none, copied_within}
+use Rattle.bunch_places.proofs.Pastes.{moves_none}
 use Rattle.bunch_places.proofs.Blocks.{moves_block, moves_rest, length_block}
 use Rattle.bunch_places.proofs.Overlaps.{moves_over}
 use Rattle.bunch_places.proofs.inner.move_up.Goals as goal
@@ -29,9 +29,14 @@ returns-then-to-from-ge256 c =
     let a = c.args in
     moves_over a.from a.to a.n l.i 256 a.arena.now (omega arith) (omega arith) (omega arith) (omega arith) l.invariant.2 c.move_block-then-to-from-ge256.ensures
 
+pub shape_of-arena : goal.shape_of-arena
+shape_of-arena c =
+    let l = c.loop-i in
+    let a = c.args in
+    length_block a.to a.from l.i l.arena l.arena (omega (arith, l.invariant.1)) (omega (arith, l.invariant.1)) c.move_up_by_bytes.ensures ∙ l.invariant.1
+
 pub returns : goal.returns
 returns c =
     let l = c.loop-i in
     let a = c.args in
-    moves_rest a.from a.to a.n l.i a.arena.now (omega arith) (omega arith) (omega arith) l.invariant.2
-    (c.copy_within.ensures.after ∙ copied_within a.from a.to l.i (a.from + l.i) l.arena (omega arith) (omega (arith, l.invariant.1)))
+    moves_rest a.from a.to a.n l.i a.arena.now (omega arith) (omega arith) (omega arith) l.invariant.2 c.move_up_by_bytes.ensures

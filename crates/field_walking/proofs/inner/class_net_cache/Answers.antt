@@ -12,4 +12,4 @@ returns-then-left-eq0 c =
 pub returns : goal.returns
 returns c =
     let a = c.args in
-    (c.call.ensures.0 ∙ ap (λ m. call m a.bytes.now a.w.now) c.max.ensures ∙ sym (calls_go_on a.bytes.now a.w.now a.count (omega (arith, c.left.ensures, c.if-left-eq0.false))), c.call.ensures.1)
+    (c.call.ensures.0 ∙ ap (λ m. call m a.bytes.now a.w.now) c.at_least_two.ensures.0 ∙ sym (calls_go_on a.bytes.now a.w.now a.count (omega (arith, c.left.ensures, c.if-left-eq0.false))), c.call.ensures.1)

@@ -8,5 +8,5 @@ pub returns-then-rest-left : goal.returns-then-rest-left
 returns-then-rest-left c =
     let d = c.args.bytes.now in
     let w = c.args.w.now in
-    let there = tested w c.fields_of-quick.new.rest.used (rw c.left.ensures at c.if-rest-left.true) in
-    rw c.advance.ensures (header_reads d w fields (rw c.packet_bit.ensures at c.peek.ensures) c.fields_of-quick.ensures there, sound_past d w c.fields_of-quick.new.rest.used c.requires there.in_window)
+    let there = tested w c.fields_of-quick.result.rest.used (rw c.left.ensures at c.if-rest-left.true) in
+    rw c.advance.ensures (header_reads d w fields (rw c.packet_bit.ensures at c.peek.ensures) c.fields_of-quick.ensures there, sound_past d w c.fields_of-quick.result.rest.used c.requires there.in_window)

@@ -48,17 +48,16 @@ returns-then-is_whole c =
       sound_past d c.args.w.now n.result c.requires.0 there,
     )
 
-pub returns-in_err-need-2 : goal.returns-in_err-need-2
-returns-in_err-need-2 c =
+pub returns-then-left-lt1 : goal.returns-then-left-lt1
+returns-then-left-lt1 c =
     let n = c.floor_log2-width in
     let p = c.power-top in
     let d = c.args.bytes.now in
     let there = c.in_ok-need.ensures.there in
-    let s = c.in_err-need-2.ensures.short in
-    let short = rw c.advance.ensures at s.0 in
+    let short = rw (c.left.ensures, c.advance.ensures) at c.if-left-lt1.true in
     let f = leb-false c.args.max (c.low-value.result + p.result) (sym c.is_whole.ensures ∙ c.if-is_whole.false) in
-    rw (handed_on c.from_residual-in_err-need-2.result c.in_err-need-2.field-0.0 c.advance.new.self c.from_residual-in_err-need-2.ensures.1, s.1, c.advance.ensures) (
-      sym (cut_top d c.args.w.now c.args.max (sym n.ensures.0) (the_value (goal.at.returns-in_err-need-2 c).After-low-value) there (omega (arith, p.ensures.0, f)) (omega (arith, short))),
+    rw (c.too_few_bits.ensures, c.advance.ensures) (
+      sym (cut_top d c.args.w.now c.args.max (sym n.ensures.0) (the_value (goal.at.returns-then-left-lt1 c).After-low-value) there (omega (arith, p.ensures.0, f)) (omega (arith, short))),
       sound_past d c.args.w.now n.result c.requires.0 there,
     )
 
@@ -93,7 +92,7 @@ returns c =
     let p = c.power-top in
     let d = c.args.bytes.now in
     let there = c.in_ok-need.ensures.there in
-    let more = rw c.advance.ensures at c.in_ok-need-2.ensures.there in
+    let more = rw (c.left.ensures, c.advance.ensures) at c.if-left-lt1.false in
     let f = leb-false c.args.max (c.low-value.result + p.result) (sym c.is_whole.ensures ∙ c.if-is_whole.false) in
     let past = c.advance-2.ensures ∙ ap (λ (w : Window). advanced w 1) c.advance.ensures ∙ advanced_past c.args.w.now n.result 1 (n.result + 1) refl in
     rw (past, sym (the_whole g.After-only_if (the_value g.After-low-value))) (

@@ -1,7 +1,7 @@
 -- `Going` holds at each turn.
 use Rattle.std.proofs.Common.{sym, ◌∙◌, arith, rules}
 use Rattle.listing.proofs.Going.{lies}
-use Rattle.listing.proofs.inner.run.records.Goals.{in-Some+in-Ok, in_default+else-is_over}
+use Rattle.listing.proofs.inner.run.records.Goals.{in-Some+in-Ok, in-Some+in-Err, in_default}
 use Rattle.listing.proofs.inner.run.records.Goals as goal
 
 pub slice_bounds-tell-count : goal.slice_bounds-tell-count
@@ -38,7 +38,8 @@ records-preserved g c =
             },
             search rules,
           )
-      | in_default+else-is_over w ↦
+      | in-Some+in-Err w ↦ let over = rw w.outcome-is at c.is_over.ensures in let not_over = c.if-is_over.false in cc
+      | in_default w ↦
           let r = w.refill-refilled in
           rw (w.buffer-is, w.out-is, w.part-is, w.at-is, w.used-is, w.columns-is, w.live_sequences-is, w.live_partials-is) (
             record {

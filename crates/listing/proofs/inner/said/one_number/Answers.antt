@@ -4,4 +4,4 @@ use Rattle.log_lines.proofs.Texts.{then, at_most}
 use Rattle.listing.proofs.inner.said.one_number.Goals as goal
 
 pub returns : goal.returns
-returns c = at_most (then c.text-behind.ensures (then c.number-only.ensures c.byte.ensures)) 34 (omega (arith, c.requires.0))
+returns c = at_most (then c.word-behind.ensures (then c.number-only.ensures c.byte.ensures)) 34 (omega (arith, c.requires.0))

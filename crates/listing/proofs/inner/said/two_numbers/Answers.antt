@@ -4,4 +4,4 @@ use Rattle.log_lines.proofs.Texts.{then, at_most}
 use Rattle.listing.proofs.inner.said.two_numbers.Goals as goal
 
 pub returns : goal.returns
-returns c = at_most (then c.text-first.ensures (then c.number-second.ensures (then c.number-third.ensures c.byte.ensures))) 55 (omega (arith, c.requires.0))
+returns c = at_most (then c.word-first.ensures (then c.number-second.ensures (then c.number-third.ensures c.byte.ensures))) 55 (omega (arith, c.requires.0))

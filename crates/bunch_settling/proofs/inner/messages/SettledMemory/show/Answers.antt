@@ -1,7 +1,7 @@
 -- The payload goes behind what was copied to the front.
 use native.Mathlib.Omega.{arith}
 use Rattle.bunch_settling.proofs.Edits.{shown}
-use Rattle.bunch_settling.proofs.inner.messages.Settled.show.Goals as goal
+use Rattle.bunch_settling.proofs.inner.messages.SettledMemory.show.Goals as goal
 
 pub returns : goal.returns
 returns c =

@@ -3,7 +3,7 @@ use mathlib.Core.Path.{refl}
 use native.Mathlib.Omega.{arith}
 use Rattle.bunch_settling.proofs.Numbers.{numbers}
 use Rattle.bunch_settling.proofs.Edits.{dropped}
-use Rattle.bunch_settling.proofs.inner.messages.Settled.drop_message.Goals as goal
+use Rattle.bunch_settling.proofs.inner.messages.SettledMemory.drop_message.Goals as goal
 
 pub returns-clause-lays : goal.returns-clause-lays
 returns-clause-lays c =

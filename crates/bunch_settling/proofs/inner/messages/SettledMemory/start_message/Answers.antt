@@ -3,7 +3,7 @@ use mathlib.Core.Path.{refl}
 use native.Mathlib.Omega.{arith}
 use Rattle.bunch_settling.proofs.Numbers.{free_numbers}
 use Rattle.bunch_settling.proofs.Edits.{started}
-use Rattle.bunch_settling.proofs.inner.messages.Settled.start_message.Goals as goal
+use Rattle.bunch_settling.proofs.inner.messages.SettledMemory.start_message.Goals as goal
 
 pub returns-clause-lays : goal.returns-clause-lays
 returns-clause-lays c =

@@ -1,11 +1,11 @@
 -- What stays is changed by the words and bytes that it means; else the message goes.
-use mathlib.Core.Path.{refl, sym}
+use mathlib.Core.Path.{refl}
 use native.Mathlib.Omega.{arith}
 use Rattle.bunch_settling.specs.Settling.{settled_memory}
 use Rattle.bunch_settling.proofs.Numbers.{numbers}
 use Rattle.bunch_settling.proofs.Places.{place_long}
 use Rattle.bunch_settling.proofs.Settles.{stayed_is, changing, bits_after, joins_few, bytes_kept, bytes_room}
-use Rattle.bunch_settling.proofs.inner.messages.Settled.settle_held.Goals as goal
+use Rattle.bunch_settling.proofs.inner.messages.SettledMemory.settle_held.Goals as goal
 
 pub bytes_of-keep-requires : goal.bytes_of-keep-requires
 bytes_of-keep-requires c =
@@ -36,8 +36,8 @@ returns-then-e-clause-lays c =
     let joins = c.bits_if-joins.ensures in
     let taken = c.if-e.true in
     let keep = bytes_kept _ _ _ _ _ _ _ _ _ _ _ g joins c.bytes_of-keep.ensures in
-    rw taken
-    (c.change_bytes.ensures.lays (settled_memory c.args.self.now) _ c.args.i _ refl (sym c.put_place.ensures) refl refl (rw joins (bits_after _ _ _ _ _ _ _ _ _ _ _ g)) (changing _ _ _ _ _ _ _ _ _ _ _ g refl keep taken) _ (rw keep (stayed_is _ _ _ _ _ _ _ _ _ _ _ g)))
+    rw (taken, c.change_bytes.ensures.others.0, c.change_bytes.ensures.others.1, c.put_place.ensures)
+    (c.change_bytes.ensures.lays (settled_memory c.args.self.now) _ c.args.i _ refl refl (rw joins (bits_after _ _ _ _ _ _ _ _ _ _ _ g)) (changing _ _ _ _ _ _ _ _ _ _ _ g refl keep taken) _ (rw keep (stayed_is _ _ _ _ _ _ _ _ _ _ _ g)))
 
 pub returns-clause-lays : goal.returns-clause-lays
 returns-clause-lays c = rw c.if-e.false c.drop_message.ensures.lays
