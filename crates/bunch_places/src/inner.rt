@@ -21,8 +21,8 @@ pub fn remove_place(places: &mut [Place], live: usize, at: usize)
     remove(places, live, at);
 }
 
-// By loops, over a block of a known length straight code: a call for a length that is found out at run time keeps what is around it from
-// being inlined, and a copy by the library's calls leaves no place for a fault in one block, which the edits try.
+// By loops, over a block of a known length straight code: a copy by one of the library's calls has no place for a fault in one block or
+// at one byte, which the edits try.
 fn move_down_by_bytes(arena: &mut [u8], from: usize, to: usize, n: usize)
     requires { (to ≤ from) × (from + n ≤ length arena.old) }
     ensures { arena.new ≡ moved from to n arena.old }

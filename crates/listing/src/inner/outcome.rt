@@ -80,7 +80,7 @@ pub fn after_read(moved: Result<usize, Failure>, left: usize, start: u64) -> Opt
     }
 }
 
-// A listing that has ended takes no further turn.
+// A listing that has ended takes no further turn. A write that failed stands by its name, so that an edit can turn it alone.
 pub fn is_over(outcome: Option<Outcome>) -> bool
     ensures { result ≡ is_over outcome }
 {
